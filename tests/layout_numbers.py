@@ -49,27 +49,27 @@ EXAMPLE = "a worked example"
 SPACE, CODE, PIECE, GROUP, POWER = "the code of a blank", "the code of a closure", "the bytes of a piece that is read or written", "the weight of a hall's cut", "a power of two, or a shift"
 PLACES = {
     LIMIT: [
-        "td_copy/src/epochs.rt: 65536, 4",
-        "td_group/src/cells.rt: 65536, 5",
-        "td_group/src/free.rt: 65536, 3",
-        "td_group/src/group.rt: 65536, 5",
+        "td_store/src/copy/epochs.rt: 65536, 4",
+        "td_store/src/group/cells.rt: 65536, 5",
+        "td_store/src/group/free.rt: 65536, 3",
+        "td_store/src/group/submit.rt: 65536, 5",
         "td_journal/src/journal.rt: 65536, 11",
         "td_journal/src/parse.rt: 65536, 1",
         "td_journal/src/payload.rt: 65536, 1",
         "td_slots/src/payload.rt: 1048576, 1",
         "td_slots/src/slots.rt: 1048576, 4",
-        "td_standing/src/layout.rt: 1048576, 1",
-        "td_standing/src/layout.rt: 65536, 2",
-        "td_standing/src/parts.rt: 65536, 2",
-        "td_standing/src/steps.rt: 1048576, 1",
-        "td_standing/src/steps.rt: 65536, 1",
+        "td_store/src/standing/layout.rt: 1048576, 1",
+        "td_store/src/standing/layout.rt: 65536, 2",
+        "td_store/src/standing/parts.rt: 65536, 2",
+        "td_store/src/standing/steps.rt: 1048576, 1",
+        "td_store/src/standing/steps.rt: 65536, 1",
     ],
     WHERE: [
-        "td_copy/src/epochs.rt: 8258, 3",
-        "td_copy/src/told.rt: 8258, 1",
-        "td_copy/src/zeros.rt: 4129, 2",
-        "td_copy/src/zeros.rt: 8257, 2",
-        "td_copy/src/zeros.rt: 8258, 2",
+        "td_store/src/copy/epochs.rt: 8258, 3",
+        "td_store/src/copy/told.rt: 8258, 1",
+        "td_store/src/copy/zeros.rt: 4129, 2",
+        "td_store/src/copy/zeros.rt: 8257, 2",
+        "td_store/src/copy/zeros.rt: 8258, 2",
         "td_slots/src/slots.rt: 24, 2",
     ],
     ANEW: [
@@ -87,7 +87,7 @@ PLACES = {
         "td_slots/specs/Slot.antt: 24, 1",
     ],
     GATE: [
-        "td_group/specs/Groups.antt: 165, 1",
+        "td_store/specs/group/Groups.antt: 165, 1",
         "td_head/src/format.rt: 165, 3",
     ],
     SHAPE: [
@@ -96,9 +96,9 @@ PLACES = {
     ],
     EXAMPLE: [
         "td_slots/specs/Examples.antt: 8258, 2",
-        "td_standing/specs/Examples.antt: 165, 1",
-        "td_standing/specs/Examples.antt: 4128, 2",
-        "td_standing/specs/Examples.antt: 8257, 1",
+        "td_store/specs/standing/Examples.antt: 165, 1",
+        "td_store/specs/standing/Examples.antt: 4128, 2",
+        "td_store/specs/standing/Examples.antt: 8257, 1",
     ],
     SPACE: [
         "td/src/plan.rt: 32, 1",

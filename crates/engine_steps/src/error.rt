@@ -8,7 +8,7 @@ use td_journal::JournalError;
 use td_progress::ProgressError;
 use td_reach::ReachError;
 use td_stamp::StampError;
-use td_standing::KeeperError;
+use td_store::standing::KeeperError;
 use td_task::TaskError;
 use td_watch::WatchError;
 

@@ -3,7 +3,7 @@ use crate::error::StepError;
 use crate::lines::{print_entries, print_epoch, print_none, print_states};
 use td_keeper::{Group, GroupError, Receipt};
 use td_stamp::{Batch, EpochOut, States};
-use td_standing::KeeperError;
+use td_store::standing::KeeperError;
 
 /// `kept EPOCH:` and the states; and for each epoch after it `epoch EPOCH:` and its entries.
 pub(crate) fn print_opening(

@@ -63,7 +63,7 @@ fn get<D: Disk>(
 
 /// Whether a disk has all of a region, its gate too.
 fn has_region<D: Disk>(device: &D, region: Region) -> bool
-    ensures { IsTrue result → region.at + region.len + 1 ≤ D.capacity device.now }
+    ensures { IsTrue result → region.at + region.len + 1 ≤ (D.view device.now).capacity }
 {
     let size = device.size();
     region.at < size && region.len < size - region.at

@@ -9,7 +9,7 @@ use td_keeper::Reply;
 use td_pool::PoolError;
 use td_questions::Entry;
 use td_stamp::Batch;
-use td_standing::KeeperError;
+use td_store::standing::KeeperError;
 
 /// A line for each reply, as for a call of the keeper; or why it did not begin.
 pub(crate) fn print_replies(rt: &impl Print, replies: Replies) -> Result<(), StepError> {

@@ -111,7 +111,7 @@ fn has_ring<D: Disk>(device: &D, ring: Journal) -> bool
     ensures cells { IsTrue result → 0 < ring.n }
     ensures few { IsTrue result → ring.n ≤ 65536 }
     ensures records { IsTrue result → ring.m ≤ 65536 }
-    ensures room { IsTrue result → ring.at + ring_len ring.m ring.n ≤ D.capacity device.now }
+    ensures room { IsTrue result → ring.at + ring_len ring.m ring.n ≤ (D.view device.now).capacity }
 {
     if ring.n == 0 || ring.n > 65_536 || ring.m > 65_536 {
         return false;

@@ -10,7 +10,7 @@ use td_disk::{Disk, Fill, MemoryDisk};
 use td_head::Shape;
 use td_keeper::Keeper;
 use td_plan::Plan;
-use td_standing::KeeperError;
+use td_store::standing::KeeperError;
 
 /// A disk, or a keeper that has one, or none yet.
 #[derive(Drop)]

@@ -11,7 +11,7 @@ use std::time::Clock;
 use td_calls::Stock;
 use td_keeper::{Command, Keeper, Reply};
 use td_pool::{Crew, Pool, PoolError, Seat};
-use td_standing::KeeperError;
+use td_store::standing::KeeperError;
 
 /// What a keeper answers to commands.
 pub(crate) type Replies = Result<Vec<Reply>, (KeeperError, Vec<Command>)>;

@@ -4,7 +4,7 @@ use std::io;
 use td_console::Fault;
 use td_disk::MakeError;
 use td_stamp::StampError;
-use td_standing::KeeperError;
+use td_store::standing::KeeperError;
 
 /// Why a command was not done.
 #[derive(Debug, Drop)]

@@ -2,7 +2,7 @@
 use crate::error::StepError;
 use td_console::Fault;
 use td_stamp::{Batch, States};
-use td_standing::KeeperError;
+use td_store::standing::KeeperError;
 
 /// `kept EPOCH:` and the states; and for each epoch after it `epoch EPOCH:` and its entries.
 pub(crate) fn print_opening(

@@ -16,7 +16,7 @@ use td_head::Shape;
 use td_keeper::Keeper;
 use td_plan::Plan;
 use td_stamp::Batch;
-use td_standing::KeeperError;
+use td_store::standing::KeeperError;
 
 /// A disk in memory that stops at one of its calls.
 type Device = FuseDisk<MemoryDisk>;

@@ -12,7 +12,7 @@ use std::rt::Files;
 use td_console::Fault;
 use td_disk::{Disk, FileDisk};
 use td_formula::Closure;
-use td_standing::KeeperError;
+use td_store::standing::KeeperError;
 
 /// The closures in text of the disk in the file at `disk`; none, where it has no such file.
 pub(crate) fn closures_of_disk<R: Files<File = File> + AllocGlobal>(

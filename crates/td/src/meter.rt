@@ -192,13 +192,7 @@ impl<D: Disk> Metered<D> {
 }
 
 impl<D: Disk> Disk for Metered<D> {
-    ghost capacity = { λ m. D.capacity m.inner };
-
-    ghost failures = { λ m. D.failures m.inner };
-
-    ghost is_lawful = { λ m. D.is_lawful m.inner };
-
-    ghost state = { λ m. D.state m.inner };
+    ghost view = { λ m. D.view m.inner };
 
     ghost reads_image = { λ m lawful. D.reads_image m.inner lawful };
 

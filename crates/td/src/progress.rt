@@ -30,7 +30,7 @@ use td_feed::Voice;
 use td_formula::Closure;
 use td_head::Shape;
 use td_plan::Plan;
-use td_standing::KeeperError;
+use td_store::standing::KeeperError;
 use td_watch::{Reader, Watch, Writer};
 use td_written::{StreamOptions as HowToStream, stream};
 

@@ -15,7 +15,7 @@ use td_disk::{Disk, FileFailure, MakeError, ReadAhead};
 use td_feed::{dump, dump_placed, show};
 use td_live::{LiveError, ReadOnlyFile, Snapshot, take_snapshot};
 use td_plan::Plan;
-use td_standing::KeeperError;
+use td_store::standing::KeeperError;
 
 /// How many readings of a disk there are at most before it is said to be busy.
 const READINGS: u32 = 16;

@@ -4,11 +4,11 @@
 use std::alloc::{AllocError, AllocFailed, Global};
 use td_closures::Fault as ClosuresFault;
 use td_console::Fault;
-use td_copy::CopyError;
 use td_disk::{Disk, FileFailure};
 use td_plan::Plan;
-use td_standing::{KeeperError, recover_device};
 use td_states::StatesError;
+use td_store::copy::CopyError;
+use td_store::standing::{KeeperError, recover_device};
 
 /// Why a command failed.
 #[derive(Debug, Drop)]

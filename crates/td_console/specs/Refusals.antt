@@ -4,9 +4,9 @@ use Rattle.std.specs.Fmt.{decimal}
 use Rattle.td_disk.specs.declared.error.MakeError.{MakeError}
 use Rattle.td_disk.specs.declared.error.MakeError.TheVariants as make
 use Rattle.td_plan.specs.Refusals.{refusal_text}
-use Rattle.td_standing.specs.declared.error.KeeperError.{KeeperError}
-use Rattle.td_standing.specs.declared.error.KeeperError.TheVariants as keeper
-use Rattle.td_standing.specs.Refusals.{refusal_text as keeper_text}
+use Rattle.td_store.specs.declared.standing.error.KeeperError.{KeeperError}
+use Rattle.td_store.specs.declared.standing.error.KeeperError.TheVariants as keeper
+use Rattle.td_store.specs.standing.Refusals.{refusal_text as keeper_text}
 use Rattle.td_console.specs.declared.faults.LineFault.{LineFault}
 use Rattle.td_console.specs.declared.faults.LineFault.TheVariants.{Syntax, NoSuchInput, NotClosed, NotOut, SeenBefore, Gap, NoSuchFold}
 use Rattle.td_console.specs.declared.faults.Fault.{Fault}

@@ -13,7 +13,7 @@ use td_batch::BatchError;
 use td_disk::MakeError;
 use td_plan::PlanError;
 use td_stamp::StampError;
-use td_standing::KeeperError;
+use td_store::standing::KeeperError;
 
 /// What is wrong with a data line.
 #[derive(Clone, Copy, Debug, PartialEq, Eq)]

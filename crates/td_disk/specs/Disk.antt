@@ -12,6 +12,14 @@ pub record DiskState : Type 1 where
   -- this moment, a number that never falls
   pub moment : ℕ
 
+-- WHAT CONTRACTS SEE OF A DISK: how many bytes it has, how many of its calls have failed, whether it is claimed to keep the laws of a disk, and
+-- its state
+pub record DiskView : Type 1 where
+  pub capacity : ℕ
+  pub failures : ℕ
+  pub lawful : Type 0
+  pub state : DiskState
+
 -- n bytes at an offset
 abbrev pub bytes_at : ℕ → ℕ → List ℕ → List ℕ
 bytes_at at n image = take n (drop at image)

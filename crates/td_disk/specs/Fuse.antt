@@ -1,7 +1,7 @@
 use Rattle.std.specs.Prelude.{◌≡◌, ℕ, ◌-◌, ◌^◌, ◌<◌, ◌≤◌, Result, IsErr, ⊤}
 use Rattle.td_disk.specs.declared.error.Fault.{Fault}
 use Rattle.td_disk.specs.declared.fuse.FuseDisk.{FuseDisk}
-use Rattle.td_disk.specs.Disk.{CountsFailures}
+use Rattle.td_disk.specs.Disk.{DiskView, CountsFailures}
 
 -- the disk to which calls are passed on
 abbrev pub inner_of : {D : Type 0} → FuseDisk D → D
@@ -16,9 +16,9 @@ abbrev pub Gives : Type 0 → Type 1
 Gives D = Result ⊤ Fault → D → Type 0
 
 -- A call passed on: its answer is the inner disk's, and a failure is a failure there.
-pub record PassesOn {D : Type 0} (failures : D → ℕ) (gives : Gives D) (result : Result ⊤ Fault) (old new : FuseDisk D) : Type 0 where
+pub record PassesOn {D : Type 0} (view : D → DiskView) (gives : Gives D) (result : Result ⊤ Fault) (old new : FuseDisk D) : Type 0 where
   pub answer : gives result (inner_of new)
-  pub cause : CountsFailures result (failures (inner_of old)) (failures (inner_of new))
+  pub cause : CountsFailures result (view (inner_of old)).failures (view (inner_of new)).failures
 
 -- The disk stopped: the call fails, and the inner disk is not called.
 pub record StaysStopped {D : Type 0} (result : Result ⊤ Fault) (old new : FuseDisk D) : Type 0 where
@@ -26,21 +26,21 @@ pub record StaysStopped {D : Type 0} (result : Result ⊤ Fault) (old new : Fuse
   pub inner : inner_of new ≡ inner_of old
 
 -- A read is passed on until the disk has stopped, and is not counted.
-pub record FuseReads {D : Type 0} (failures : D → ℕ) (gives : Gives D) (count : ℕ) (result : Result ⊤ Fault) (old new : FuseDisk D) : Type 0 where
+pub record FuseReads {D : Type 0} (view : D → DiskView) (gives : Gives D) (count : ℕ) (result : Result ⊤ Fault) (old new : FuseDisk D) : Type 0 where
   pub left : calls_left new ≡ calls_left old
   pub stopped : calls_left old ≡ 0 → StaysStopped result old new
-  pub passed : 0 < calls_left old → count < 2 ^ 64 - 1 → PassesOn failures gives result old new
+  pub passed : 0 < calls_left old → count < 2 ^ 64 - 1 → PassesOn view gives result old new
 
 -- A write is counted and passed on, and the last one is passed on and fails whatever became of it.
-pub record FuseWrites {D : Type 0} (failures : D → ℕ) (gives : Gives D) (count : ℕ) (result : Result ⊤ Fault) (old new : FuseDisk D) : Type 0 where
+pub record FuseWrites {D : Type 0} (view : D → DiskView) (gives : Gives D) (count : ℕ) (result : Result ⊤ Fault) (old new : FuseDisk D) : Type 0 where
   pub left : calls_left new ≡ calls_left old - 1
   pub stopped : calls_left old ≡ 0 → StaysStopped result old new
   pub stops : calls_left old ≡ 1 → IsErr result
   pub reaches : calls_left old ≡ 1 → count < 2 ^ 64 - 1 → (answer : Result ⊤ Fault) × gives answer (inner_of new)
-  pub passed : 1 < calls_left old → count < 2 ^ 64 - 1 → PassesOn failures gives result old new
+  pub passed : 1 < calls_left old → count < 2 ^ 64 - 1 → PassesOn view gives result old new
 
 -- A sync is counted and passed on, but for the last one.
-pub record FuseSyncs {D : Type 0} (failures : D → ℕ) (gives : Gives D) (count : ℕ) (result : Result ⊤ Fault) (old new : FuseDisk D) : Type 0 where
+pub record FuseSyncs {D : Type 0} (view : D → DiskView) (gives : Gives D) (count : ℕ) (result : Result ⊤ Fault) (old new : FuseDisk D) : Type 0 where
   pub left : calls_left new ≡ calls_left old - 1
   pub stopped : calls_left old ≤ 1 → StaysStopped result old new
-  pub passed : 1 < calls_left old → count < 2 ^ 64 - 1 → PassesOn failures gives result old new
+  pub passed : 1 < calls_left old → count < 2 ^ 64 - 1 → PassesOn view gives result old new

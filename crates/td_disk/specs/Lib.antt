@@ -7,3 +7,4 @@ pub mod MakeError
 pub mod MemoryDisk
 pub mod Record
 pub mod RecordProofs
+pub mod Calls

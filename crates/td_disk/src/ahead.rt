@@ -29,7 +29,7 @@ pub struct ReadAhead<D: Disk> {
     start: u64,
     is_written: bool,
     failures: u64,
-    ghost current: { D.is_lawful inner → block.items ≡ bytes_at start (length block.items) (D.state inner).bytes },
+    ghost current: { (D.view inner).lawful → block.items ≡ bytes_at start (length block.items) (D.view inner).state.bytes },
     ghost let_go: { is_written ≡ true → block.items ≡ [] },
 }
 
@@ -39,7 +39,7 @@ impl<D: Disk> ReadAhead<D> {
     /// The disk of this one, no call of which has failed. Blocks are allocated with `alloc`.
     pub fn new(alloc: Global, inner: D) -> ReadAhead<D>
         ensures inner { inner_of result ≡ inner }
-        ensures failures { ⟦<ReadAhead<D> as Disk>⟧.failures result ≡ 0 }
+        ensures failures { (⟦<ReadAhead<D> as Disk>⟧.view result).failures ≡ 0 }
     {
         ReadAhead {
             alloc,
@@ -72,14 +72,14 @@ impl<D: Disk> ReadAhead<D> {
 
     // Reads the block from an offset on where nothing was written, and so many bytes are few and do not stand in the block.
     fn look_ahead(&mut self, at: u64, len: usize)
-        requires { at ≤ D.capacity self.old.inner }
-        ensures size { D.capacity self.new.inner ≡ D.capacity self.old.inner }
-        ensures lawful { D.is_lawful self.old.inner ↔ D.is_lawful self.new.inner }
+        requires { at ≤ (D.view self.old.inner).capacity }
+        ensures size { (D.view self.new.inner).capacity ≡ (D.view self.old.inner).capacity }
+        ensures lawful { (D.view self.old.inner).lawful ↔ (D.view self.new.inner).lawful }
         ensures failures { self.new.failures ≡ self.old.failures }
-        ensures later { D.failures self.old.inner ≤ D.failures self.new.inner }
-        ensures same { D.is_lawful self.old.inner → (D.state self.new.inner).bytes ≡ (D.state self.old.inner).bytes }
-        ensures images { D.is_lawful self.old.inner → NoNewImages (D.state self.old.inner) (D.state self.new.inner) }
-        ensures time { D.is_lawful self.old.inner → TimePasses (D.state self.old.inner) (D.state self.new.inner) }
+        ensures later { (D.view self.old.inner).failures ≤ (D.view self.new.inner).failures }
+        ensures same { (D.view self.old.inner).lawful → (D.view self.new.inner).state.bytes ≡ (D.view self.old.inner).state.bytes }
+        ensures images { (D.view self.old.inner).lawful → NoNewImages (D.view self.old.inner).state (D.view self.new.inner).state }
+        ensures time { (D.view self.old.inner).lawful → TimePasses (D.view self.old.inner).state (D.view self.new.inner).state }
     {
         if !self.is_written && len <= SMALL && self.place_of(at, len).is_none() {
             self.take_block(at);
@@ -88,15 +88,15 @@ impl<D: Disk> ReadAhead<D> {
 
     // Reads the block from an offset on, or lets the block go.
     fn take_block(&mut self, at: u64)
-        requires place { at ≤ D.capacity self.old.inner }
+        requires place { at ≤ (D.view self.old.inner).capacity }
         requires unwritten { self.old.is_written ≡ false }
-        ensures size { D.capacity self.new.inner ≡ D.capacity self.old.inner }
-        ensures lawful { D.is_lawful self.old.inner ↔ D.is_lawful self.new.inner }
+        ensures size { (D.view self.new.inner).capacity ≡ (D.view self.old.inner).capacity }
+        ensures lawful { (D.view self.old.inner).lawful ↔ (D.view self.new.inner).lawful }
         ensures failures { self.new.failures ≡ self.old.failures }
-        ensures later { D.failures self.old.inner ≤ D.failures self.new.inner }
-        ensures same { D.is_lawful self.old.inner → (D.state self.new.inner).bytes ≡ (D.state self.old.inner).bytes }
-        ensures images { D.is_lawful self.old.inner → NoNewImages (D.state self.old.inner) (D.state self.new.inner) }
-        ensures time { D.is_lawful self.old.inner → TimePasses (D.state self.old.inner) (D.state self.new.inner) }
+        ensures later { (D.view self.old.inner).failures ≤ (D.view self.new.inner).failures }
+        ensures same { (D.view self.old.inner).lawful → (D.view self.new.inner).state.bytes ≡ (D.view self.old.inner).state.bytes }
+        ensures images { (D.view self.old.inner).lawful → NoNewImages (D.view self.old.inner).state (D.view self.new.inner).state }
+        ensures time { (D.view self.old.inner).lawful → TimePasses (D.view self.old.inner).state (D.view self.new.inner).state }
     {
         let len = BLOCK.min(self.inner.size() - at) as usize;
         // (a block of this length is read over as it stands, and not filled with zeros first)
@@ -116,15 +116,9 @@ impl<D: Disk> ReadAhead<D> {
 impl<D: Disk> Disk for ReadAhead<D> {
     ghost use Rattle.td_disk.specs.Ahead.{FailsWithInner, IsPassedOn};
 
-    ghost capacity = { λ r. D.capacity r.inner };
+    ghost view = { λ r. record { capacity = (D.view r.inner).capacity; failures = r.failures; lawful = (D.view r.inner).lawful; state = (D.view r.inner).state } };
 
-    ghost failures = { λ r. r.failures };
-
-    ghost is_lawful = { λ r. D.is_lawful r.inner };
-
-    ghost state = { λ r. D.state r.inner };
-
-    ghost read_gives = { λ r _ _ result q. FailsWithInner D.failures r.failures result r q };
+    ghost read_gives = { λ r _ _ result q. FailsWithInner D.view r.failures result r q };
 
     ghost write_gives = { λ r at bytes result q. IsPassedOn (D.write_gives r.inner at bytes) r.failures result q };
 

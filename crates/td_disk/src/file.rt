@@ -65,9 +65,9 @@ impl FileDisk {
         path: &str,
         size: u64,
     ) -> Result<FileDisk, MakeError>
-        ensures size { IfOk result (λ d. ⟦<FileDisk as Disk>⟧.capacity d ≡ size) }
+        ensures size { IfOk result (λ d. (⟦<FileDisk as Disk>⟧.view d).capacity ≡ size) }
         ensures too_large { 2 ^ 63 ≤ size → IsErr result }
-        ensures failures { IfOk result (λ d. ⟦<FileDisk as Disk>⟧.failures d ≡ 0) }
+        ensures failures { IfOk result (λ d. (⟦<FileDisk as Disk>⟧.view d).failures ≡ 0) }
         ensures no_failed_sync { IfOk result (λ d. has_failed_sync d ≡ false) }
     {
         let mut options = OpenOptions::new();
@@ -85,7 +85,7 @@ impl FileDisk {
     /// file cannot be opened to be read and written, or measured, or it is no file but a folder, a device or a
     /// pipe, or another has locked it, and `Memory`.
     pub fn open<R: Files<File = File>>(rt: &R, path: &str) -> Result<FileDisk, MakeError>
-        ensures failures { IfOk result (λ d. ⟦<FileDisk as Disk>⟧.failures d ≡ 0) }
+        ensures failures { IfOk result (λ d. (⟦<FileDisk as Disk>⟧.view d).failures ≡ 0) }
         ensures no_failed_sync { IfOk result (λ d. has_failed_sync d ≡ false) }
     {
         let mut options = OpenOptions::new();
@@ -169,13 +169,7 @@ impl Disk for FileDisk {
     ghost use Rattle.td_disk.specs.FileDisk.{FileCalls, FileSyncs};
     ghost use Rattle.td_disk.specs.declared.file_failure.FileCall.TheVariants.{Read, Write};
 
-    ghost capacity = { λ f. f.size };
-
-    ghost failures = { λ f. f.failures };
-
-    ghost is_lawful = { λ _. ⊥ };
-
-    ghost state = { λ _. record { bytes = []; images = λ _. ⊥; since = λ _ _. ⊥; moment = 0 } };
+    ghost view = { λ f. record { capacity = f.size; failures = f.failures; lawful = ⊥; state = record { bytes = []; images = λ _. ⊥; since = λ _ _. ⊥; moment = 0 } } };
 
     ghost read_gives = { λ f _ _ result g. FileCalls Read result f g };
 

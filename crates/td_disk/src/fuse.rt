@@ -23,7 +23,7 @@ impl<D: Disk> FuseDisk<D> {
     pub fn stop_at(inner: D, k: u64) -> FuseDisk<D>
         ensures inner { inner_of result ≡ inner }
         ensures left { calls_left result ≡ k }
-        ensures failures { ⟦<FuseDisk<D> as Disk>⟧.failures result ≡ 0 }
+        ensures failures { (⟦<FuseDisk<D> as Disk>⟧.view result).failures ≡ 0 }
     {
         FuseDisk {
             inner,
@@ -44,19 +44,13 @@ impl<D: Disk> FuseDisk<D> {
 impl<D: Disk> Disk for FuseDisk<D> {
     ghost use Rattle.td_disk.specs.Fuse.{FuseReads, FuseWrites, FuseSyncs};
 
-    ghost capacity = { λ f. D.capacity f.inner };
+    ghost view = { λ f. record { capacity = (D.view f.inner).capacity; failures = f.failures; lawful = (D.view f.inner).lawful; state = (D.view f.inner).state } };
 
-    ghost failures = { λ f. f.failures };
+    ghost read_gives = { λ f at bytes result g. FuseReads D.view (D.read_gives f.inner at bytes) f.failures result f g };
 
-    ghost is_lawful = { λ f. D.is_lawful f.inner };
+    ghost write_gives = { λ f at bytes result g. FuseWrites D.view (D.write_gives f.inner at bytes) f.failures result f g };
 
-    ghost state = { λ f. D.state f.inner };
-
-    ghost read_gives = { λ f at bytes result g. FuseReads D.failures (D.read_gives f.inner at bytes) f.failures result f g };
-
-    ghost write_gives = { λ f at bytes result g. FuseWrites D.failures (D.write_gives f.inner at bytes) f.failures result f g };
-
-    ghost sync_gives = { λ f result g. FuseSyncs D.failures (D.sync_gives f.inner) f.failures result f g };
+    ghost sync_gives = { λ f result g. FuseSyncs D.view (D.sync_gives f.inner) f.failures result f g };
 
     ghost reads_image = { λ f lawful. D.reads_image f.inner lawful };
 

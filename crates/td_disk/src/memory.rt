@@ -79,9 +79,9 @@ impl MemoryDisk {
     /// A disk of `size` bytes, all of them 0. It refuses `Memory` alone.
     pub fn new(alloc: Global, size: u64) -> Result<MemoryDisk, MakeError>
         ensures zeros { IfOk result (λ d. contents_of d ≡ synced (replicate size 0)) }
-        ensures size { IfOk result (λ d. ⟦<MemoryDisk as Disk>⟧.capacity d ≡ size) }
-        ensures durable { IfOk result (λ d. IsDurable (⟦<MemoryDisk as Disk>⟧.state d)) }
-        ensures failures { IfOk result (λ d. ⟦<MemoryDisk as Disk>⟧.failures d ≡ 0) }
+        ensures size { IfOk result (λ d. (⟦<MemoryDisk as Disk>⟧.view d).capacity ≡ size) }
+        ensures durable { IfOk result (λ d. IsDurable ((⟦<MemoryDisk as Disk>⟧.view d).state)) }
+        ensures failures { IfOk result (λ d. (⟦<MemoryDisk as Disk>⟧.view d).failures ≡ 0) }
         ensures memory { IsOkUnless result MakeError.Memory }
     {
         let bytes = vec![in alloc; 0; size as usize]?;
@@ -99,13 +99,7 @@ impl MemoryDisk {
 impl Disk for MemoryDisk {
     ghost use Rattle.td_disk.specs.MemoryDisk.{contents_of};
 
-    ghost capacity = { λ m. length m.bytes.items };
-
-    ghost failures = { λ m. m.failures };
-
-    ghost is_lawful = { λ _. Unit {0} };
-
-    ghost state = { λ m. state_after m.initial.items m.calls.items };
+    ghost view = { λ m. record { capacity = length m.bytes.items; failures = m.failures; lawful = Unit {0}; state = state_after m.initial.items m.calls.items } };
 
     ghost read_gives = { λ m _ _ result n. Reads m.failures result (contents_of m) (contents_of n) };
 
@@ -239,10 +233,10 @@ impl MemoryDisk {
     /// The disk as it is found after a crash now. It refuses `Memory` alone.
     pub fn crash(&self, fill: Fill) -> Result<MemoryDisk, MakeError>
         ensures left { IfOk result (λ d. contents_of d ≡ synced (crash_image fill (contents_of self.now))) }
-        ensures image { IfOk result (λ d. (⟦<MemoryDisk as Disk>⟧.state self.now).images (⟦<MemoryDisk as Disk>⟧.state d).bytes) }
-        ensures durable { IfOk result (λ d. IsDurable (⟦<MemoryDisk as Disk>⟧.state d)) }
-        ensures size { IfOk result (λ d. ⟦<MemoryDisk as Disk>⟧.capacity d ≡ ⟦<MemoryDisk as Disk>⟧.capacity self.now) }
-        ensures failures { IfOk result (λ d. ⟦<MemoryDisk as Disk>⟧.failures d ≡ 0) }
+        ensures image { IfOk result (λ d. ((⟦<MemoryDisk as Disk>⟧.view self.now).state).images ((⟦<MemoryDisk as Disk>⟧.view d).state).bytes) }
+        ensures durable { IfOk result (λ d. IsDurable ((⟦<MemoryDisk as Disk>⟧.view d).state)) }
+        ensures size { IfOk result (λ d. (⟦<MemoryDisk as Disk>⟧.view d).capacity ≡ (⟦<MemoryDisk as Disk>⟧.view self.now).capacity) }
+        ensures failures { IfOk result (λ d. (⟦<MemoryDisk as Disk>⟧.view d).failures ≡ 0) }
         ensures memory { IsOkUnless result MakeError.Memory }
     {
         let bytes = bytes_left(self.alloc, &self.initial, &self.calls, fill)?;

@@ -5,9 +5,9 @@ use Rattle.td_plan.specs.Lines.{Line}
 use Rattle.td_calls.specs.Answers.{Answers}
 use Rattle.td_disk.specs.Disk.{DiskState}
 use Rattle.td_head.specs.declared.head.Head.{Head}
-use Rattle.td_standing.specs.Standing.{Standing, last_epoch}
-use Rattle.td_standing.specs.Told.{Told}
-use Rattle.td_standing.specs.Advanced.{HeldWhere}
+use Rattle.td_store.specs.standing.Standing.{Standing, last_epoch}
+use Rattle.td_store.specs.standing.Told.{Told}
+use Rattle.td_store.specs.standing.Advanced.{HeldWhere}
 use Rattle.td_keeper.specs.declared.command.Reply.{Reply}
 use Rattle.td_keeper.specs.declared.command.Reply.TheVariants.{Submitted, SubmittedAs, SubmittedAll, Released, Settled, Collected, Out, CutTaken, Answered, Written, Closed, Refused, RefusedAll}
 use Rattle.td_keeper.specs.declared.receipt.Receipt.TheVariants.{New, Already}

@@ -8,8 +8,8 @@ use Rattle.td_stamp.specs.States.{StateList}
 use Rattle.td_plan.specs.Lines.{Line as PlanLine}
 use Rattle.td_journal.specs.declared.submitted.Submitted.{Submitted}
 use Rattle.td_journal.specs.Numbers.{greatest, may_come}
-use Rattle.td_standing.specs.Standing.{Standing}
-use Rattle.td_standing.specs.Stops.{Stands}
+use Rattle.td_store.specs.standing.Standing.{Standing}
+use Rattle.td_store.specs.standing.Stops.{Stands}
 use Rattle.td_feed.specs.declared.note.Note.TheVariants.{There}
 use Rattle.td_feed.specs.declared.order.Order.{Order}
 use Rattle.td_feed.specs.declared.order.Order.TheVariants.{SubmitAt, Say}

@@ -10,17 +10,17 @@ use Rattle.td_plan.specs.Lines.{Line}
 use Rattle.td_plan.specs.Tree.{Nodes, tree_of}
 use Rattle.td_calls.specs.Answers.{Answers}
 use Rattle.td_batch.specs.Meaning.{run}
-use Rattle.td_disk.specs.Disk.{DiskState}
+use Rattle.td_disk.specs.Disk.{DiskView, DiskState}
 use Rattle.td_gate.specs.CrashSafe.{CrashSafe, Unchanged}
 use Rattle.td_head.specs.declared.head.Head.{Head}
 use Rattle.td_journal.specs.declared.submitted.Submitted.{Submitted}
 use Rattle.td_journal.specs.Numbers.{greatest}
-use Rattle.td_standing.specs.Standing.{Standing, last_epoch, last_request, batches_of, with_more, cut_at}
-use Rattle.td_standing.specs.Stops.{Advance, Begins, Stands}
-use Rattle.td_standing.specs.declared.error.KeeperError.{KeeperError}
-use Rattle.td_standing.specs.Told.{Told}
-use Rattle.td_standing.specs.Tells.{Tells, Keeps}
-use Rattle.td_standing.specs.Advanced.{TellsAdvance, SinceAdvance, HeldWhere, states_by}
+use Rattle.td_store.specs.standing.Standing.{Standing, last_epoch, last_request, batches_of, with_more, cut_at}
+use Rattle.td_store.specs.standing.Stops.{Advance, Begins, Stands}
+use Rattle.td_store.specs.declared.standing.error.KeeperError.{KeeperError}
+use Rattle.td_store.specs.standing.Told.{Told}
+use Rattle.td_store.specs.standing.Tells.{Tells, Keeps}
+use Rattle.td_store.specs.standing.Advanced.{TellsAdvance, SinceAdvance, HeldWhere, states_by}
 use Rattle.td_keeper.specs.declared.command.Reply.{Reply}
 use Rattle.td_keeper.specs.Grouped.{AllOrNone}
 use Rattle.td_keeper.specs.Keeping.{Keeping, IsKeeping, with_epochs, with_group, with_checkpoint}
@@ -210,27 +210,27 @@ module _ (answers : Answers) (stands_on : Stands-on answers) where
       })
 
 -- what is told where the device failed in a call
-module _ {D : Type 0} (is_lawful : D → Type 0) (state : D → DiskState) (answers : Answers) (stands_on : Stands-on answers) (old new : Keeping D)
-    (before : is_lawful new.device → is_lawful old.device)
-    (counts : is_lawful new.device → (c : List ℕ) → (state new.device).images c → (state new.device).since (state old.device).moment c) where
-  pub stopped_one : (x : Submitted) → (is_lawful old.device → SinceAdvance answers old.plan old.standing (x ∷ []) (last_epoch old.standing) (state old.device).moment (state new.device))
-      → Stopped is_lawful state answers old new (x ∷ []) 0 1
+module _ {D : Type 0} (view : D → DiskView) (answers : Answers) (stands_on : Stands-on answers) (old new : Keeping D)
+    (before : (view new.device).lawful → (view old.device).lawful)
+    (counts : (view new.device).lawful → (c : List ℕ) → (view new.device).state.images c → (view new.device).state.since (view old.device).state.moment c) where
+  pub stopped_one : (x : Submitted) → ((view old.device).lawful → SinceAdvance answers old.plan old.standing (x ∷ []) (last_epoch old.standing) (view old.device).state.moment (view new.device).state)
+      → Stopped view answers old new (x ∷ []) 0 1
   stopped_one x since history is lawful c image =
       ⊎_elim (λ t. inl (subst (λ (h : List Submitted). TellsHistory answers old.plan h c) (sym (append-nil history)) t)) (λ t. inr (omega arith, t))
       (one_told answers stands_on old.plan old.standing history x c is (since (before lawful) c (counts lawful c image)))
 
-  pub stopped_none : (is_lawful old.device → SinceAdvance answers old.plan old.standing [] (last_epoch old.standing) (state old.device).moment (state new.device))
-      → Stopped is_lawful state answers old new [] 0 0
+  pub stopped_none : ((view old.device).lawful → SinceAdvance answers old.plan old.standing [] (last_epoch old.standing) (view old.device).state.moment (view new.device).state)
+      → Stopped view answers old new [] 0 0
   stopped_none since history is lawful c image =
       inl (subst (λ (h : List Submitted). TellsHistory answers old.plan h c) (sym (append-nil history))
       (still_told answers stands_on old.plan old.standing history c is (since (before lawful) c (counts lawful c image))))
 
 -- and in a call that submits a group
-module _ {D : Type 0} (is_lawful : D → Type 0) (state : D → DiskState) (answers : Answers) (old new : Keeping D)
-    (before : is_lawful new.device → is_lawful old.device)
-    (counts : is_lawful new.device → (c : List ℕ) → (state new.device).images c → (state new.device).since (state old.device).moment c) where
-  pub stopped_all : (x : List Submitted) → (is_lawful old.device → AllOrNone old.plan old.standing x (state old.device).moment (state new.device))
-      → Stopped is_lawful state answers old new x 0 (length x)
+module _ {D : Type 0} (view : D → DiskView) (answers : Answers) (old new : Keeping D)
+    (before : (view new.device).lawful → (view old.device).lawful)
+    (counts : (view new.device).lawful → (c : List ℕ) → (view new.device).state.images c → (view new.device).state.since (view old.device).state.moment c) where
+  pub stopped_all : (x : List Submitted) → ((view old.device).lawful → AllOrNone old.plan old.standing x (view old.device).state.moment (view new.device).state)
+      → Stopped view answers old new x 0 (length x)
   stopped_all x since history is lawful c image =
       ⊎_elim
       (λ told. inl (subst (λ (h : List Submitted). TellsHistory answers old.plan h c) (sym (append-nil history)) (record { standing = old.standing; told = told; stands = is })))
@@ -241,18 +241,18 @@ module _ {D : Type 0} (is_lawful : D → Type 0) (state : D → DiskState) (answ
       ))
       (since (before lawful) c (counts lawful c image))
 
-module _ {D : Type 0} (is_lawful : D → Type 0) (state : D → DiskState) (answers : Answers) where
+module _ {D : Type 0} (view : D → DiskView) (answers : Answers) where
   -- a refusal with nothing submitted
-  pub leaves_none : (old new : Keeping D) (more : List Submitted) → Carries answers old new [] → Leaves is_lawful state answers old new more
+  pub leaves_none : (old new : Keeping D) (more : List Submitted) → Carries answers old new [] → Leaves view answers old new more
   leaves_none old new more is = record { count = 0; group = 0; few = omega arith; left = inl is }
 
   -- with all of them
-  pub leaves_all : (old new : Keeping D) (more : List Submitted) → Carries answers old new more → Leaves is_lawful state answers old new more
+  pub leaves_all : (old new : Keeping D) (more : List Submitted) → Carries answers old new more → Leaves view answers old new more
   leaves_all old new more is =
       record { count = length more; group = 0; few = omega arith; left = inl (subst (λ (x : List Submitted). Carries answers old new x) (sym (take_all (length more) more (omega arith))) is) }
 
   -- a refusal in the middle
-  pub then_leaves : (a b c : Keeping D) (x y z all : List Submitted) → all ≡ x ++ (y ++ z) → Carries answers a b x → Leaves is_lawful state answers b c y → Leaves is_lawful state answers a c all
+  pub then_leaves : (a b c : Keeping D) (x y z all : List Submitted) → all ≡ x ++ (y ++ z) → Carries answers a b x → Leaves view answers b c y → Leaves view answers a c all
   then_leaves a b c x y z all is first rest = record {
     count = length x + rest.count;
     group = rest.group;
@@ -278,7 +278,7 @@ module _ {D : Type 0} (is_lawful : D → Type 0) (state : D → DiskState) (answ
           subst (λ (p : List Line). TellsHistory answers p (history ++ take (length x + n) all) i) first.plan
           (subst (λ (l : List Submitted). TellsHistory answers b.plan l i) (append_assoc history x (take n y) ∙ ap (λ (l : List Submitted). history ++ l) (sym (part n le))) t)
 
-module _ {D : Type 0} (is_lawful : D → Type 0) (state : D → DiskState) (answers : Answers) (a b c : Keeping D) where
+module _ {D : Type 0} (view : D → DiskView) (answers : Answers) (a b c : Keeping D) where
   -- one after the other, where one of them submits nothing
   pub carries_after : (y : List Submitted) → Carries answers a b [] → Carries answers b c y → Carries answers a c y
   carries_after y first rest = then_carries answers a b c [] y first rest
@@ -286,11 +286,11 @@ module _ {D : Type 0} (is_lawful : D → Type 0) (state : D → DiskState) (answ
   pub carries_then : (x : List Submitted) → Carries answers a b x → Carries answers b c [] → Carries answers a c x
   carries_then x first rest = subst (λ (l : List Submitted). Carries answers a c l) (append-nil x) (then_carries answers a b c x [] first rest)
 
-  pub leaves_after : (y : List Submitted) → Carries answers a b [] → Leaves is_lawful state answers b c y → Leaves is_lawful state answers a c y
-  leaves_after y first rest = then_leaves is_lawful state answers a b c [] y [] y (sym (append-nil y)) first rest
+  pub leaves_after : (y : List Submitted) → Carries answers a b [] → Leaves view answers b c y → Leaves view answers a c y
+  leaves_after y first rest = then_leaves view answers a b c [] y [] y (sym (append-nil y)) first rest
 
-  pub leaves_then : (x : List Submitted) → Carries answers a b x → Leaves is_lawful state answers b c [] → Leaves is_lawful state answers a c x
-  leaves_then x first rest = then_leaves is_lawful state answers a b c x [] [] x (sym (append-nil x)) first rest
+  pub leaves_then : (x : List Submitted) → Carries answers a b x → Leaves view answers b c [] → Leaves view answers a c x
+  leaves_then x first rest = then_leaves view answers a b c x [] [] x (sym (append-nil x)) first rest
 
 -- the law: what is told in parts is told
 abbrev pub Together : Type 0
@@ -299,18 +299,18 @@ Together = (plan : List Line) (head : Head) (side : ℕ) (s : Standing) (image :
 abbrev pub One-answer : Type 0
 One-answer = (plan : List Line) (image : List ℕ) (a b : Result Standing KeeperError) → Told plan image a → Told plan image b → a ≡ b
 
-module _ {D : Type 0} (is_lawful : D → Type 0) (state : D → DiskState) (answers : Answers) (together : Together) where
+module _ {D : Type 0} (view : D → DiskView) (answers : Answers) (together : Together) where
   -- the disk of a whole keeper tells what its standing stands for
   pub each_told : (k : Keeping D) (history : List Submitted) → k.broken ≡ false → StandsFor answers k history
-      → (is_lawful k.device → HeldWhere k.broken answers k.plan k.head k.side k.standing (state k.device)) → is_lawful k.device → EachTellsHistory answers k.plan history (state k.device)
+      → ((view k.device).lawful → HeldWhere k.broken answers k.plan k.head k.side k.standing (view k.device).state) → (view k.device).lawful → EachTellsHistory answers k.plan history (view k.device).state
   each_told k history whole is held lawful c image =
-      let keeps : Keeps k.plan k.head k.side k.standing (state k.device) = subst (λ (b : Bool). HeldWhere b answers k.plan k.head k.side k.standing (state k.device)) whole (held lawful) in
-      record { standing = k.standing; told = subst (λ (i : List ℕ). Told k.plan i (Ok k.standing)) (sym (keeps.durable c image)) (together k.plan k.head k.side k.standing (state k.device).bytes keeps.tells); stands = is }
+      let keeps : Keeps k.plan k.head k.side k.standing (view k.device).state = subst (λ (b : Bool). HeldWhere b answers k.plan k.head k.side k.standing (view k.device).state) whole (held lawful) in
+      record { standing = k.standing; told = subst (λ (i : List ℕ). Told k.plan i (Ok k.standing)) (sym (keeps.durable c image)) (together k.plan k.head k.side k.standing (view k.device).state.bytes keeps.tells); stands = is }
 
   -- at the end
-  pub ended_some : (old new : Keeping D) (history more : List Submitted) → StandsFor answers old history → Leaves is_lawful state answers old new more
-      → (is_lawful new.device → HeldWhere new.broken answers new.plan new.head new.side new.standing (state new.device)) → is_lawful new.device
-      → EachTellsSome answers old.plan history more (state new.device)
+  pub ended_some : (old new : Keeping D) (history more : List Submitted) → StandsFor answers old history → Leaves view answers old new more
+      → ((view new.device).lawful → HeldWhere new.broken answers new.plan new.head new.side new.standing (view new.device).state) → (view new.device).lawful
+      → EachTellsSome answers old.plan history more (view new.device).state
   ended_some old new history more is leaves held lawful = record {
     count = leaves.count;
     group = leaves.group;
@@ -321,10 +321,10 @@ module _ {D : Type 0} (is_lawful : D → Type 0) (state : D → DiskState) (answ
   }
 
   pub ended_all : (old new : Keeping D) (history more : List Submitted) → StandsFor answers old history → Carries answers old new more
-      → (is_lawful new.device → HeldWhere new.broken answers new.plan new.head new.side new.standing (state new.device)) → is_lawful new.device
-      → EachTellsHistory answers old.plan (history ++ more) (state new.device)
+      → ((view new.device).lawful → HeldWhere new.broken answers new.plan new.head new.side new.standing (view new.device).state) → (view new.device).lawful
+      → EachTellsHistory answers old.plan (history ++ more) (view new.device).state
   ended_all old new history more is carries held lawful =
-      subst (λ (p : List Line). EachTellsHistory answers p (history ++ more) (state new.device)) carries.plan
+      subst (λ (p : List Line). EachTellsHistory answers p (history ++ more) (view new.device).state) carries.plan
       (each_told new (history ++ more) carries.whole (carries.stands history is) held lawful)
 
 -- the same history, with nothing submitted

@@ -6,7 +6,7 @@ use Rattle.std.proofs.lemmas.List.{map-append, take-append-le}
 use Rattle.std.proofs.lemmas.List.Elements.{All-nil, All-cons, All-append, All-weaker}
 use Rattle.td_plan.specs.Lines.{Line as PlanLine}
 use Rattle.td_calls.specs.Answers.{Answers}
-use Rattle.td_disk.specs.Disk.{DiskState}
+use Rattle.td_disk.specs.Disk.{DiskView, DiskState}
 use Rattle.td_journal.specs.declared.submitted.Submitted.{Submitted}
 use Rattle.td_keeper.specs.Keeping.{Keeping}
 use Rattle.td_feed.specs.declared.order.Order.{Order}
@@ -15,9 +15,9 @@ use Rattle.td_feed.specs.Noted.{Aside, as_asked, ComeOf, copied_in}
 use Rattle.td_feed.specs.Noted.Aside.{to_say, to_answer, to_copy}
 use Rattle.td_feed.specs.Orders.{notes_in}
 use Rattle.td_head.specs.declared.head.Head.{Head}
-use Rattle.td_standing.specs.Told.{Told}
-use Rattle.td_standing.specs.Tells.{Tells, Keeps}
-use Rattle.td_standing.specs.Standing.{last_epoch}
+use Rattle.td_store.specs.standing.Told.{Told}
+use Rattle.td_store.specs.standing.Tells.{Tells, Keeps}
+use Rattle.td_store.specs.standing.Standing.{last_epoch}
 use Rattle.td_feed.specs.Fed.{EachTellsHistory}
 use Rattle.td_feed.specs.Carried.{StandsFor, Carries}
 use Rattle.td_feed.specs.Copied.{Copied, with_copies, IsCopyOf, MakesCopies}
@@ -67,68 +67,68 @@ module _ {E : Type 0} where
   with_more None made more = refl
   with_more (Some copies) made more = ap Some (append_assoc copies made more)
 
-  module _ (is_lawful : E → Type 0) (state : E → DiskState) (answers : Answers) (plan : List PlanLine) where
+  module _ (view : E → DiskView) (answers : Answers) (plan : List PlanLine) where
     -- a copy of a history is one of what it goes on to
-    pub further : (history more : List Submitted) (c : Copied E) → IsCopyOf is_lawful state answers plan history c → IsCopyOf is_lawful state answers plan (history ++ more) c
+    pub further : (history more : List Submitted) (c : Copied E) → IsCopyOf view answers plan history c → IsCopyOf view answers plan (history ++ more) c
     further history more c is = record {
       within = let few = is.within in let both = length-append history more in omega (arith, few, both);
-      tells = λ lawful. subst (λ (h : List Submitted). EachTellsHistory answers plan h (state c.disk)) (sym (take-append-le c.epoch history more is.within)) (is.tells lawful);
+      tells = λ lawful. subst (λ (h : List Submitted). EachTellsHistory answers plan h (view c.disk).state) (sym (take-append-le c.epoch history more is.within)) (is.tells lawful);
     }
 
-    pub all_further : (history more : List Submitted) (made : List (Copied E)) → All (IsCopyOf is_lawful state answers plan history) made → All (IsCopyOf is_lawful state answers plan (history ++ more)) made
+    pub all_further : (history more : List Submitted) (made : List (Copied E)) → All (IsCopyOf view answers plan history) made → All (IsCopyOf view answers plan (history ++ more)) made
     all_further history more made all =
-        All-weaker (IsCopyOf is_lawful state answers plan history) (IsCopyOf is_lawful state answers plan (history ++ more)) (λ c is. further history more c is) made all
+        All-weaker (IsCopyOf view answers plan history) (IsCopyOf view answers plan (history ++ more)) (λ c is. further history more c is) made all
 
-module _ {D E : Type 0} (is_lawful : D → Type 0) (is_new_lawful : E → Type 0) (new_state : E → DiskState) (answers : Answers) where
+module _ {D E : Type 0} (view : D → DiskView) (new_view : E → DiskView) (answers : Answers) where
   -- none were made
-  pub none_made : (kept : Option (List (Copied E))) (k : Keeping D) (x : List Submitted) → MakesCopies is_lawful is_new_lawful new_state answers [] kept kept k x
-  none_made kept k x = record { made = []; kept = sym (with_none kept); labelled = refl; each = λ lawful history stands. All-nil (IsCopyOf is_new_lawful new_state answers k.plan (history ++ x)) }
+  pub none_made : (kept : Option (List (Copied E))) (k : Keeping D) (x : List Submitted) → MakesCopies view new_view answers [] kept kept k x
+  none_made kept k x = record { made = []; kept = sym (with_none kept); labelled = refl; each = λ lawful history stands. All-nil (IsCopyOf new_view answers k.plan (history ++ x)) }
 
   -- some were, and then more
-  pub made_then : (said more : List (List ℕ × ℕ)) (u v w : Option (List (Copied E))) (a b : Keeping D) (x y : List Submitted) → (is_lawful a.device → is_lawful b.device) → Carries answers a b x
-      → MakesCopies is_lawful is_new_lawful new_state answers said u v a x → MakesCopies is_lawful is_new_lawful new_state answers more v w b y
-      → MakesCopies is_lawful is_new_lawful new_state answers (said ++ more) u w a (x ++ y)
+  pub made_then : (said more : List (List ℕ × ℕ)) (u v w : Option (List (Copied E))) (a b : Keeping D) (x y : List Submitted) → ((view a.device).lawful → (view b.device).lawful) → Carries answers a b x
+      → MakesCopies view new_view answers said u v a x → MakesCopies view new_view answers more v w b y
+      → MakesCopies view new_view answers (said ++ more) u w a (x ++ y)
   made_then said more u v w a b x y sound carried first rest = record {
     made = first.made ++ rest.made;
     kept = rest.kept ∙ ap (λ (k : Option (List (Copied E))). with_copies k rest.made) first.kept ∙ with_more u first.made rest.made;
     labelled = map-append (λ (c : Copied E). (c.name, c.epoch)) first.made rest.made ∙ (λ i. first.labelled i ++ rest.labelled i);
     each = λ lawful history stands.
-        let P : List Submitted → Copied E → Type 0 = λ h. IsCopyOf is_new_lawful new_state answers a.plan h in
+        let P : List Submitted → Copied E → Type 0 = λ h. IsCopyOf new_view answers a.plan h in
         subst (λ (h : List Submitted). All (P h) (first.made ++ rest.made)) (append_assoc history x y)
         (All-append (P ((history ++ x) ++ y)) first.made rest.made
-        (all_further is_new_lawful new_state answers a.plan (history ++ x) y first.made (first.each lawful history stands))
-        (subst (λ (plan : List PlanLine). All (IsCopyOf is_new_lawful new_state answers plan ((history ++ x) ++ y)) rest.made) carried.plan (rest.each (sound lawful) (history ++ x) (carried.stands history stands))));
+        (all_further new_view answers a.plan (history ++ x) y first.made (first.each lawful history stands))
+        (subst (λ (plan : List PlanLine). All (IsCopyOf new_view answers plan ((history ++ x) ++ y)) rest.made) carried.plan (rest.each (sound lawful) (history ++ x) (carried.stands history stands))));
   }
 
   -- also with more batches than these
-  pub made_within : (said : List (List ℕ × ℕ)) (u v : Option (List (Copied E))) (a : Keeping D) (x more : List Submitted) → MakesCopies is_lawful is_new_lawful new_state answers said u v a x
-      → MakesCopies is_lawful is_new_lawful new_state answers said u v a (x ++ more)
+  pub made_within : (said : List (List ℕ × ℕ)) (u v : Option (List (Copied E))) (a : Keeping D) (x more : List Submitted) → MakesCopies view new_view answers said u v a x
+      → MakesCopies view new_view answers said u v a (x ++ more)
   made_within said u v a x more is = record {
     made = is.made;
     kept = is.kept;
     labelled = is.labelled;
     each = λ lawful history stands.
-        subst (λ (h : List Submitted). All (IsCopyOf is_new_lawful new_state answers a.plan h) is.made) (append_assoc history x more)
-        (all_further is_new_lawful new_state answers a.plan (history ++ x) more is.made (is.each lawful history stands));
+        subst (λ (h : List Submitted). All (IsCopyOf new_view answers a.plan h) is.made) (append_assoc history x more)
+        (all_further new_view answers a.plan (history ++ x) more is.made (is.each lawful history stands));
   }
 
   -- one was made, of what the keeper stands for
   pub one_made : (n : List ℕ) (e : ℕ) (disk : E) (had has : Option (List (Copied E))) (k : Keeping D) (head : Head) (side : ℕ)
       → ((image : List ℕ) → Tells k.plan head side k.standing image → Told k.plan image (Ok k.standing))
       → has ≡ with_copies had (record { name = n; epoch = e; disk = disk } ∷ []) → e ≡ last_epoch k.standing
-      → (is_lawful k.device → is_new_lawful disk → Keeps k.plan head side k.standing (new_state disk)) → MakesCopies is_lawful is_new_lawful new_state answers ((n, e) ∷ []) had has k []
+      → ((view k.device).lawful → (new_view disk).lawful → Keeps k.plan head side k.standing (new_view disk).state) → MakesCopies view new_view answers ((n, e) ∷ []) had has k []
   one_made n e disk had has k head side together kept last keeps = record {
     made = c ∷ [];
     kept = kept;
     labelled = refl;
     each = λ lawful history stands.
-        All-cons (IsCopyOf is_new_lawful new_state answers k.plan (history ++ [])) c [] (is_one lawful history stands) (All-nil (IsCopyOf is_new_lawful new_state answers k.plan (history ++ [])));
+        All-cons (IsCopyOf new_view answers k.plan (history ++ [])) c [] (is_one lawful history stands) (All-nil (IsCopyOf new_view answers k.plan (history ++ [])));
   }
     where
       c : Copied E
       c = record { name = n; epoch = e; disk = disk }
 
-      is_one : is_lawful k.device → (history : List Submitted) → StandsFor answers k history → IsCopyOf is_new_lawful new_state answers k.plan (history ++ []) c
+      is_one : (view k.device).lawful → (history : List Submitted) → StandsFor answers k history → IsCopyOf new_view answers k.plan (history ++ []) c
       is_one lawful history stands =
           let long : length history ≡ last_epoch k.standing = as_long answers k.plan k.standing history stands in
           let many : length (history ++ []) ≡ length history = ap length (append-nil history) in
@@ -137,10 +137,10 @@ module _ {D E : Type 0} (is_lawful : D → Type 0) (is_new_lawful : E → Type 0
             within = omega (arith, long, many, last);
             tells = λ new_lawful.
                 let kept_there = keeps lawful new_lawful in
-                subst (λ (h : List Submitted). EachTellsHistory answers k.plan h (new_state disk)) (sym whole)
+                subst (λ (h : List Submitted). EachTellsHistory answers k.plan h (new_view disk).state) (sym whole)
                 (λ image left. record {
                   standing = k.standing;
-                  told = subst (λ (i : List ℕ). Told k.plan i (Ok k.standing)) (sym (kept_there.durable image left)) (together (new_state disk).bytes kept_there.tells);
+                  told = subst (λ (i : List ℕ). Told k.plan i (Ok k.standing)) (sym (kept_there.durable image left)) (together (new_view disk).state.bytes kept_there.tells);
                   stands = stands;
                 });
           }

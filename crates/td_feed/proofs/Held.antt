@@ -5,7 +5,7 @@ use Rattle.std.proofs.Math.Nat.{le-max_left, le-max_right, max-eq_left, max-eq_r
 use Rattle.std.proofs.lemmas.Bool.{ltb-true, ltb-false}
 use Rattle.td_stamp.specs.declared.values.Entry.{Entry}
 use Rattle.td_calls.specs.Answers.{Answers}
-use Rattle.td_disk.specs.Disk.{DiskState}
+use Rattle.td_disk.specs.Disk.{DiskView, DiskState}
 use Rattle.td_journal.specs.declared.submitted.Submitted.{Submitted as AnySubmitted}
 use Rattle.td_questions.specs.declared.question.Wanted.{Wanted}
 use Rattle.td_keeper.specs.declared.command.Command.{Command}
@@ -149,63 +149,63 @@ pub cut_submits_none : (seen : Option ℕ) → batch_in (cut_for seen) ≡ []
 cut_submits_none None = refl
 cut_submits_none (Some epoch) = refl
 
-module _ {D : Type 0} (is_lawful : D → Type 0) (state : D → DiskState) (failures : D → ℕ) (answers : Answers) where
-  submits : (batch : List Entry) (reply : Reply) (old new : Keeping D) → Submits is_lawful state failures answers batch reply old new → SameBase old new
+module _ {D : Type 0} (view : D → DiskView) (answers : Answers) where
+  submits : (batch : List Entry) (reply : Reply) (old new : Keeping D) → Submits view answers batch reply old new → SameBase old new
   submits batch (Submitted n) old new r = by r.submitted (record { plan = refl; base = refl })
   submits batch (Refused e back) old new r = aside _ _ r.unchanged
   submits batch other old new r = absurd r
 
-  submits_as : (request : ℕ) (batch : List Entry) (reply : Reply) (old new : Keeping D) → SubmitsAs is_lawful state failures answers request batch reply old new → SameBase old new
+  submits_as : (request : ℕ) (batch : List Entry) (reply : Reply) (old new : Keeping D) → SubmitsAs view answers request batch reply old new → SameBase old new
   submits_as request batch (SubmittedAs receipt) old new r = received request batch receipt old new r.received
   submits_as request batch (Refused e back) old new r = aside _ _ r.refused.unchanged
   submits_as request batch other old new r = absurd r
 
-  submits_all : (group : List AnySubmitted) (reply : Reply) (old new : Keeping D) → SubmitsAll is_lawful state failures answers group reply old new → SameBase old new
+  submits_all : (group : List AnySubmitted) (reply : Reply) (old new : Keeping D) → SubmitsAll view answers group reply old new → SameBase old new
   submits_all group (SubmittedAll n m) old new r = by r.submitted (by_group old new.device group)
   submits_all group (RefusedAll e back) old new r = aside _ _ r.unchanged
   submits_all group other old new r = absurd r
 
-  releases : (reply : Reply) (old new : Keeping D) → Releases is_lawful state failures answers reply old new → SameBase old new
+  releases : (reply : Reply) (old new : Keeping D) → Releases view answers reply old new → SameBase old new
   releases (Released n) old new r = by r.same (base_itself old)
   releases (Refused e b) old new r = ⊎_elim (λ foreign. by foreign.1.same (base_itself old)) (λ memory. by memory.1.same (base_itself old)) r.1
   releases other old new r = absurd r
 
-  settles : (reply : Reply) (old new : Keeping D) → Settles is_lawful state failures answers reply old new → SameBase old new
+  settles : (reply : Reply) (old new : Keeping D) → Settles view answers reply old new → SameBase old new
   settles Settled old new r = by r.same (base_itself old)
   settles (Refused e b) old new r = by r.1.2.same (base_itself old)
   settles other old new r = absurd r
 
-  collects : (reply : Reply) (old new : Keeping D) → Collects is_lawful state failures answers reply old new → SameBase old new
+  collects : (reply : Reply) (old new : Keeping D) → Collects view answers reply old new → SameBase old new
   collects (Collected n) old new r = by r.collected (record { plan = refl; base = refl })
   collects (Refused e b) old new r = ⊎_elim (λ foreign. by foreign.1.same (base_itself old)) (λ memory. by memory.1.same (base_itself old)) r.1
   collects other old new r = absurd r
 
-  pub hands_out : (reply : Reply) (old new : Keeping D) → HandsOut is_lawful state failures answers reply old new → SameBase old new
+  pub hands_out : (reply : Reply) (old new : Keeping D) → HandsOut view answers reply old new → SameBase old new
   hands_out (Out None) old new r = by r.1 (base_itself old)
   hands_out (Out (Some out)) old new r = by r.1 (record { plan = refl; base = refl })
   hands_out other old new r = absurd r
 
-  asks : (vertex : ℕ) (wanted : Wanted) (reply : Reply) (old new : Keeping D) → Asks is_lawful state failures answers vertex wanted reply old new → SameBase old new
+  asks : (vertex : ℕ) (wanted : Wanted) (reply : Reply) (old new : Keeping D) → Asks view answers vertex wanted reply old new → SameBase old new
   asks vertex wanted (Answered m ys) old new r = by r.same (base_itself old)
   asks vertex wanted (Refused e b) old new r =
       ⊎_elim (λ foreign. by foreign.1.same (base_itself old))
       (λ other. ⊎_elim (λ memory. by memory.1.same (base_itself old)) (λ unpassed. by unpassed.2.same (base_itself old)) other) r.1
   asks vertex wanted other old new r = absurd r
 
-  writes : (reply : Reply) (old new : Keeping D) → Writes is_lawful state failures answers reply old new → SameBase old new
+  writes : (reply : Reply) (old new : Keeping D) → Writes view answers reply old new → SameBase old new
   writes (Written w) old new r = ⊎_elim (λ none. by none.2 (base_itself old)) (λ some. by some.1 (record { plan = refl; base = refl })) r.cut
   writes (Refused e b) old new r =
       ⊎_elim (λ many. by many.1 (record { plan = refl; base = refl }))
       (λ other. ⊎_elim (λ device. by device.1 (record { plan = refl; base = refl })) (λ same. by same (base_itself old)) other) r.unchanged
   writes other old new r = absurd r
 
-  closes : (most : ℕ) (reply : Reply) (old new : Keeping D) → ClosesFree is_lawful state failures answers most reply old new → SameBase old new
+  closes : (most : ℕ) (reply : Reply) (old new : Keeping D) → ClosesFree view answers most reply old new → SameBase old new
   closes most Closed old new r = by r.same (record { plan = refl; base = refl })
   closes most (Refused e b) old new r = ⊎_elim (λ same. by same (base_itself old)) (λ device. by device.1 (record { plan = refl; base = refl })) r.unchanged
   closes most other old new r = absurd r
 
   -- a cut that is taken at no later epoch goes no further
-  cuts : (most : ℕ) (reply : Reply) (old new : Keeping D) → Cuts is_lawful state failures answers (Some most) reply old new → GoesUpTo most old new
+  cuts : (most : ℕ) (reply : Reply) (old new : Keeping D) → Cuts view answers (Some most) reply old new → GoesUpTo most old new
   cuts most (CutTaken n) old new r = record {
     plan = ap (λ (k : Keeping D). k.plan) r.cut;
     base = λ last up low.
@@ -222,7 +222,7 @@ module _ {D : Type 0} (is_lawful : D → Type 0) (state : D → DiskState) (fail
   cuts most other old new r = absurd r
 
   -- ONE COMMAND
-  pub moves : (command : Command) (reply : Reply) (old new : Keeping D) → Obeys is_lawful state failures answers command reply old new → MovesBase command old new
+  pub moves : (command : Command) (reply : Reply) (old new : Keeping D) → Obeys view answers command reply old new → MovesBase command old new
   moves (Submit batch) reply old new obeys = submits batch reply old new obeys.0
   moves (SubmitAs request batch) reply old new obeys = submits_as request batch reply old new obeys.0
   moves (SubmitAll group) reply old new obeys = submits_all group reply old new obeys.0

@@ -8,9 +8,9 @@ use Rattle.std.proofs.lemmas.List.{append-nil, append_assoc}
 use Rattle.td_plan.specs.Lines.{Line as PlanLine}
 use Rattle.td_calls.specs.Answers.{Answers}
 use Rattle.td_stamp.specs.declared.epoch_out.EpochOut.{EpochOut}
-use Rattle.td_disk.specs.Disk.{DiskState}
+use Rattle.td_disk.specs.Disk.{DiskView, DiskState}
 use Rattle.td_journal.specs.declared.submitted.Submitted.{Submitted as AnySubmitted}
-use Rattle.td_standing.specs.declared.error.KeeperError.TheVariants as error
+use Rattle.td_store.specs.declared.standing.error.KeeperError.TheVariants as error
 use Rattle.td_keeper.specs.declared.command.Command.{Command}
 use Rattle.td_keeper.specs.declared.command.Command.TheVariants.{Submit, SubmitAs, SubmitAll, Release, Settle, Collect, NextOut, Cut, CutUpTo, Answer, WriteCut, CloseFree}
 use Rattle.td_keeper.specs.declared.command.Reply.{Reply}
@@ -50,10 +50,10 @@ notes-append (answered v q r ∷ ss) ts = ap (λ (l : List Aside). to_answer v q
 notes-append (copied n s e ∷ ss) ts = ap (λ (l : List Aside). to_copy n s (Some e) ∷ l) (notes-append ss ts)
 notes-append (not_copied n s w ∷ ss) ts = ap (λ (l : List Aside). to_copy n s None ∷ l) (notes-append ss ts)
 
-module _ {D : Type 0} (is_lawful : D → Type 0) (state : D → DiskState) (failures : D → ℕ) (answers : Answers) (marks : Bool) where
+module _ {D : Type 0} (view : D → DiskView) (answers : Answers) (marks : Bool) where
   -- what is said, as commands and their replies
   abbrev Told : List Saying → Keeping D → Keeping D → Type 0
-  Told ss a b = Driven is_lawful state failures answers (commands_in ss) (replies_in ss) a b
+  Told ss a b = Driven view answers (commands_in ss) (replies_in ss) a b
 
   told-append : (ss ts : List Saying) (a b c : Keeping D) → Told ss a b → Told ts b c → Told (ss ++ ts) a c
   told-append [] ts a b c is rest = subst (λ (k : Keeping D). Told ts k c) is rest
@@ -95,12 +95,12 @@ module _ {D : Type 0} (is_lawful : D → Type 0) (state : D → DiskState) (fail
       ap (λ (l : List Aside). l ++ later) (notes-append ss ts) ∙ append_assoc (notes_among ss) (notes_among ts) later ∙ (λ i. first i ++ rest i)
 
   -- nothing was told
-  pub says_nothing : (w : Option (List ℕ)) (k : Keeping D) → Says is_lawful state failures answers marks w w k k [] []
+  pub says_nothing : (w : Option (List ℕ)) (k : Keeping D) → Says view answers marks w w k k [] []
   says_nothing w k = record { sayings = []; driven = refl; submitted = refl; noted = refl; said = Appends-nil w }
 
   -- one command was told, and its line was written
-  pub says_one : (before after : Option (List ℕ)) (c : Command) (r : Reply) (old new : Keeping D) → Driven is_lawful state failures answers (c ∷ []) (r ∷ []) old new
-      → Appends before after (line_of marks (request_in c) r) → Says is_lawful state failures answers marks before after old new (submitted_in c r) []
+  pub says_one : (before after : Option (List ℕ)) (c : Command) (r : Reply) (old new : Keeping D) → Driven view answers (c ∷ []) (r ∷ []) old new
+      → Appends before after (line_of marks (request_in c) r) → Says view answers marks before after old new (submitted_in c r) []
   says_one before after c r old new driven said = record {
     sayings = replied c r ∷ [];
     driven = driven;
@@ -110,7 +110,7 @@ module _ {D : Type 0} (is_lawful : D → Type 0) (state : D → DiskState) (fail
   }
 
   -- a note was written
-  pub says_note : (before after : Option (List ℕ)) (n : Note) (k : Keeping D) → Appends before after (note_line n) → Says is_lawful state failures answers marks before after k k [] (to_say n ∷ [])
+  pub says_note : (before after : Option (List ℕ)) (n : Note) (k : Keeping D) → Appends before after (note_line n) → Says view answers marks before after k k [] (to_say n ∷ [])
   says_note before after n k said = record {
     sayings = aside n ∷ [];
     driven = refl;
@@ -120,8 +120,8 @@ module _ {D : Type 0} (is_lawful : D → Type 0) (state : D → DiskState) (fail
   }
 
   -- a question was answered
-  pub says_answer : (before after : Option (List ℕ)) (v : ℕ) (q : Of) (r : Reply) (old new : Keeping D) → Driven is_lawful state failures answers (Answer v q ∷ []) (r ∷ []) old new
-      → Appends before after (answer_text v q r) → Says is_lawful state failures answers marks before after old new [] (to_answer v q ∷ [])
+  pub says_answer : (before after : Option (List ℕ)) (v : ℕ) (q : Of) (r : Reply) (old new : Keeping D) → Driven view answers (Answer v q ∷ []) (r ∷ []) old new
+      → Appends before after (answer_text v q r) → Says view answers marks before after old new [] (to_answer v q ∷ [])
   says_answer before after v q r old new driven said = record {
     sayings = answered v q r ∷ [];
     driven = driven;
@@ -131,7 +131,7 @@ module _ {D : Type 0} (is_lawful : D → Type 0) (state : D → DiskState) (fail
   }
 
   -- that the journal is full was written
-  pub says_full : (before after : Option (List ℕ)) (e : ℕ) (k : Keeping D) → Appends before after (full_line e) → Says is_lawful state failures answers marks before after k k [] []
+  pub says_full : (before after : Option (List ℕ)) (e : ℕ) (k : Keeping D) → Appends before after (full_line e) → Says view answers marks before after k k [] []
   says_full before after e k said = record {
     sayings = full e ∷ [];
     driven = refl;
@@ -141,8 +141,8 @@ module _ {D : Type 0} (is_lawful : D → Type 0) (state : D → DiskState) (fail
   }
 
   -- one after the other
-  pub says_then : (u v w : Option (List ℕ)) (a b c : Keeping D) (x y : List AnySubmitted) (ns ms : List Aside) → Says is_lawful state failures answers marks u v a b x ns
-      → Says is_lawful state failures answers marks v w b c y ms → Says is_lawful state failures answers marks u w a c (x ++ y) (ns ++ ms)
+  pub says_then : (u v w : Option (List ℕ)) (a b c : Keeping D) (x y : List AnySubmitted) (ns ms : List Aside) → Says view answers marks u v a b x ns
+      → Says view answers marks v w b c y ms → Says view answers marks u w a c (x ++ y) (ns ++ ms)
   says_then u v w a b c x y ns ms first rest = record {
     sayings = first.sayings ++ rest.sayings;
     driven = told-append first.sayings rest.sayings a b c first.driven rest.driven;
@@ -151,8 +151,8 @@ module _ {D : Type 0} (is_lawful : D → Type 0) (state : D → DiskState) (fail
     said = subst (λ (l : List ℕ). Appends u w l) (sym (lines-append first.sayings rest.sayings)) (Appends-trans u v w (lines_of marks first.sayings) (lines_of marks rest.sayings) first.said rest.said);
   }
 
-  pub then_some : (u v w : Option (List ℕ)) (a b c : Keeping D) (x : List AnySubmitted) (ns ms : List Aside) → Says is_lawful state failures answers marks u v a b x ns
-      → SaysSome is_lawful state failures answers marks v w b c ms → SaysSome is_lawful state failures answers marks u w a c (ns ++ ms)
+  pub then_some : (u v w : Option (List ℕ)) (a b c : Keeping D) (x : List AnySubmitted) (ns ms : List Aside) → Says view answers marks u v a b x ns
+      → SaysSome view answers marks v w b c ms → SaysSome view answers marks u w a c (ns ++ ms)
   then_some u v w a b c x ns ms first rest = record {
     sayings = first.sayings ++ rest.sayings;
     driven = told-append first.sayings rest.sayings a b c first.driven rest.driven;
@@ -165,8 +165,8 @@ module _ {D : Type 0} (is_lawful : D → Type 0) (state : D → DiskState) (fail
   }
 
   -- all is some
-  pub some_of_all : (u v : Option (List ℕ)) (a b : Keeping D) (x : List AnySubmitted) (ns : List Aside) → Says is_lawful state failures answers marks u v a b x ns
-      → SaysSome is_lawful state failures answers marks u v a b ns
+  pub some_of_all : (u v : Option (List ℕ)) (a b : Keeping D) (x : List AnySubmitted) (ns : List Aside) → Says view answers marks u v a b x ns
+      → SaysSome view answers marks u v a b ns
   some_of_all u v a b x ns all = record {
     sayings = all.sayings;
     driven = all.driven;
@@ -179,8 +179,8 @@ module _ {D : Type 0} (is_lawful : D → Type 0) (state : D → DiskState) (fail
   }
 
   -- of more notes
-  pub some_of_more : (u v : Option (List ℕ)) (a b : Keeping D) (ns more ms : List Aside) → ns ++ more ≡ ms → SaysSome is_lawful state failures answers marks u v a b ns
-      → SaysSome is_lawful state failures answers marks u v a b ms
+  pub some_of_more : (u v : Option (List ℕ)) (a b : Keeping D) (ns more ms : List Aside) → ns ++ more ≡ ms → SaysSome view answers marks u v a b ns
+      → SaysSome view answers marks u v a b ms
   some_of_more u v a b ns more ms is some = record {
     sayings = some.sayings;
     driven = some.driven;
@@ -193,38 +193,38 @@ module _ {D : Type 0} (is_lawful : D → Type 0) (state : D → DiskState) (fail
   }
 
   -- the last line was not written
-  pub unsaid_one : (w : Option (List ℕ)) (c : Command) (r : Reply) (old new : Keeping D) → Driven is_lawful state failures answers (c ∷ []) (r ∷ []) old new
-      → SaysSome is_lawful state failures answers marks w w old new []
+  pub unsaid_one : (w : Option (List ℕ)) (c : Command) (r : Reply) (old new : Keeping D) → Driven view answers (c ∷ []) (r ∷ []) old new
+      → SaysSome view answers marks w w old new []
   unsaid_one w c r old new driven =
       record { sayings = replied c r ∷ []; driven = driven; later = []; noted = refl; text = []; unsaid = lines_of marks (replied c r ∷ []); lines = refl; said = Appends-nil w }
 
-  pub unsaid_none : (w : Option (List ℕ)) (k : Keeping D) (ns : List Aside) → SaysSome is_lawful state failures answers marks w w k k ns
+  pub unsaid_none : (w : Option (List ℕ)) (k : Keeping D) (ns : List Aside) → SaysSome view answers marks w w k k ns
   unsaid_none w k ns = record { sayings = []; driven = refl; later = ns; noted = refl; text = []; unsaid = []; lines = refl; said = Appends-nil w }
 
   -- a refused command writes nothing
-  pub refused_some : (w : Option (List ℕ)) (c : Command) (old new : Keeping D) → Refuses is_lawful state failures answers c old new → SaysSome is_lawful state failures answers marks w w old new []
+  pub refused_some : (w : Option (List ℕ)) (c : Command) (old new : Keeping D) → Refuses view answers c old new → SaysSome view answers marks w w old new []
   refused_some w c old new (inl is) = record { sayings = []; driven = is; later = []; noted = refl; text = []; unsaid = []; lines = refl; said = Appends-nil w }
   refused_some w c old new (inr told) = unsaid_one w c told.0 old new told.2
 
   -- whatever was written, the keeper was told
-  pub unheard : (u v : Option (List ℕ)) (a b : Keeping D) (ns : List Aside) → SaysSome is_lawful state failures answers marks u v a b ns → SaysUnheard is_lawful state failures answers marks a b
+  pub unheard : (u v : Option (List ℕ)) (a b : Keeping D) (ns : List Aside) → SaysSome view answers marks u v a b ns → SaysUnheard view answers marks a b
   unheard u v a b ns some = record { commands = commands_in some.sayings; replies = replies_in some.sayings; driven = some.driven }
 
   -- whatever came of it, the keeper was told commands
-  pub always_driven : (result : Result (Unit {0}) Fault) (u v : Option (List ℕ)) (a b : Keeping D) (x : List AnySubmitted) (ns : List Aside) → SaysBy is_lawful state failures answers marks result u v a b x ns
-      → SaysUnheard is_lawful state failures answers marks a b
+  pub always_driven : (result : Result (Unit {0}) Fault) (u v : Option (List ℕ)) (a b : Keeping D) (x : List AnySubmitted) (ns : List Aside) → SaysBy view answers marks result u v a b x ns
+      → SaysUnheard view answers marks a b
   always_driven (Ok done) u v a b x ns all = unheard u v a b ns (some_of_all u v a b x ns all)
   always_driven (Err fault) u v a b x ns said = ⊎_elim (λ output. output.1) (λ some. unheard u v a b ns some) said
 
-  driven-append : (cs : List Command) (rs : List Reply) (ds : List Command) (ss : List Reply) (a b c : Keeping D) → Driven is_lawful state failures answers cs rs a b
-      → Driven is_lawful state failures answers ds ss b c → Driven is_lawful state failures answers (cs ++ ds) (rs ++ ss) a c
-  driven-append [] [] ds ss a b c is rest = subst (λ (k : Keeping D). Driven is_lawful state failures answers ds ss k c) is rest
+  driven-append : (cs : List Command) (rs : List Reply) (ds : List Command) (ss : List Reply) (a b c : Keeping D) → Driven view answers cs rs a b
+      → Driven view answers ds ss b c → Driven view answers (cs ++ ds) (rs ++ ss) a c
+  driven-append [] [] ds ss a b c is rest = subst (λ (k : Keeping D). Driven view answers ds ss k c) is rest
   driven-append [] (r ∷ rs) ds ss a b c none rest = absurd none
   driven-append (x ∷ cs) [] ds ss a b c none rest = absurd none
   driven-append (x ∷ cs) (r ∷ rs) ds ss a b c first rest = (first.0, first.1, first.2, driven-append cs rs ds ss first.0 b c first.3 rest)
 
-  pub then_unheard : (u v : Option (List ℕ)) (a b c : Keeping D) (x : List AnySubmitted) (ns : List Aside) → Says is_lawful state failures answers marks u v a b x ns
-      → SaysUnheard is_lawful state failures answers marks b c → SaysUnheard is_lawful state failures answers marks a c
+  pub then_unheard : (u v : Option (List ℕ)) (a b c : Keeping D) (x : List AnySubmitted) (ns : List Aside) → Says view answers marks u v a b x ns
+      → SaysUnheard view answers marks b c → SaysUnheard view answers marks a c
   then_unheard u v a b c x ns first rest = record {
     commands = commands_in first.sayings ++ rest.commands;
     replies = replies_in first.sayings ++ rest.replies;
@@ -232,36 +232,36 @@ module _ {D : Type 0} (is_lawful : D → Type 0) (state : D → DiskState) (fail
   }
 
   -- AT AN ANSWER
-  pub then_by : (result : Result (Unit {0}) Fault) (u v w : Option (List ℕ)) (a b c : Keeping D) (x y : List AnySubmitted) (ns ms : List Aside) → Says is_lawful state failures answers marks u v a b x ns
-      → SaysBy is_lawful state failures answers marks result v w b c y ms → SaysBy is_lawful state failures answers marks result u w a c (x ++ y) (ns ++ ms)
+  pub then_by : (result : Result (Unit {0}) Fault) (u v w : Option (List ℕ)) (a b c : Keeping D) (x y : List AnySubmitted) (ns ms : List Aside) → Says view answers marks u v a b x ns
+      → SaysBy view answers marks result v w b c y ms → SaysBy view answers marks result u w a c (x ++ y) (ns ++ ms)
   then_by (Ok done) u v w a b c x y ns ms first rest = says_then u v w a b c x y ns ms first rest
   then_by (Err fault) u v w a b c x y ns ms first rest = ⊎_elim (λ output. inl (output.0, then_unheard u v a b c x ns first output.1)) (λ some. inr (then_some u v w a b c x ns ms first some)) rest
 
   pub by_ok : (result : Result (Unit {0}) Fault) (u v : Option (List ℕ)) (a b : Keeping D) (x : List AnySubmitted) (ns : List Aside) → result ≡ Ok tt
-      → Says is_lawful state failures answers marks u v a b x ns → SaysBy is_lawful state failures answers marks result u v a b x ns
-  by_ok result u v a b x ns is says = subst (λ (r : Result (Unit {0}) Fault). SaysBy is_lawful state failures answers marks r u v a b x ns) (sym is) says
+      → Says view answers marks u v a b x ns → SaysBy view answers marks result u v a b x ns
+  by_ok result u v a b x ns is says = subst (λ (r : Result (Unit {0}) Fault). SaysBy view answers marks r u v a b x ns) (sym is) says
 
   pub by_refusal : (result : Result (Unit {0}) Fault) (P : Fault → Type 0) (u v : Option (List ℕ)) (a b : Keeping D) (x : List AnySubmitted) (ns : List Aside) → IsErrAnd result P
-      → ((f : Fault) → P f → ((f ≡ Output) × SaysUnheard is_lawful state failures answers marks a b) ⊎ SaysSome is_lawful state failures answers marks u v a b ns)
-      → SaysBy is_lawful state failures answers marks result u v a b x ns
+      → ((f : Fault) → P f → ((f ≡ Output) × SaysUnheard view answers marks a b) ⊎ SaysSome view answers marks u v a b ns)
+      → SaysBy view answers marks result u v a b x ns
   by_refusal (Ok done) P u v a b x ns none step = absurd none
   by_refusal (Err fault) P u v a b x ns is step = step fault is
 
   -- the same fault is handed on, with more that was asked for
   pub handed_on : (result : Result (Unit {0}) Fault) (e : Fault) (u v w : Option (List ℕ)) (a b c : Keeping D) (x y z : List AnySubmitted) (ns ms more all : List Aside) → (ns ++ ms) ++ more ≡ all
-      → IsErrAnd result (λ f. f ≡ e) → Says is_lawful state failures answers marks u v a b x ns → SaysBy is_lawful state failures answers marks (Err e) v w b c y ms
-      → SaysBy is_lawful state failures answers marks result u w a c z all
+      → IsErrAnd result (λ f. f ≡ e) → Says view answers marks u v a b x ns → SaysBy view answers marks (Err e) v w b c y ms
+      → SaysBy view answers marks result u w a c z all
   handed_on (Ok done) e u v w a b c x y z ns ms more all whole none first rest = absurd none
   handed_on (Err f) e u v w a b c x y z ns ms more all whole is first rest =
       ⊎_elim (λ output. inl (is ∙ output.0, then_unheard u v a b c x ns first output.1))
       (λ some. inr (some_of_more u w a c (ns ++ ms) more all whole (then_some u v w a b c x ns ms first some))) rest
 
   -- a command whose reply has no line
-  pub says_silent : (w : Option (List ℕ)) (c : Command) (r : Reply) (old new : Keeping D) → Driven is_lawful state failures answers (c ∷ []) (r ∷ []) old new → line_of marks (request_in c) r ≡ []
-      → Says is_lawful state failures answers marks w w old new (submitted_in c r) []
+  pub says_silent : (w : Option (List ℕ)) (c : Command) (r : Reply) (old new : Keeping D) → Driven view answers (c ∷ []) (r ∷ []) old new → line_of marks (request_in c) r ≡ []
+      → Says view answers marks w w old new (submitted_in c r) []
   says_silent w c r old new driven none = says_one w w c r old new driven (subst (λ (l : List ℕ). Appends w w l) (sym none) (Appends-nil w))
 
-  quiet_release : (r : Reply) (old new : Keeping D) → Obeys is_lawful state failures answers Release r old new → line_of marks 0 r ≡ []
+  quiet_release : (r : Reply) (old new : Keeping D) → Obeys view answers Release r old new → line_of marks 0 r ≡ []
   quiet_release (Submitted n) old new not_so = absurd not_so
   quiet_release (SubmittedAs n) old new not_so = absurd not_so
   quiet_release (SubmittedAll n m) old new not_so = absurd not_so
@@ -276,7 +276,7 @@ module _ {D : Type 0} (is_lawful : D → Type 0) (state : D → DiskState) (fail
   quiet_release (Written w) old new not_so = absurd not_so
   quiet_release (Refused e b) old new is = refl
 
-  quiet_settle : (r : Reply) (old new : Keeping D) → Obeys is_lawful state failures answers Settle r old new → line_of marks 0 r ≡ []
+  quiet_settle : (r : Reply) (old new : Keeping D) → Obeys view answers Settle r old new → line_of marks 0 r ≡ []
   quiet_settle (Submitted n) old new not_so = absurd not_so
   quiet_settle (SubmittedAs n) old new not_so = absurd not_so
   quiet_settle (SubmittedAll n m) old new not_so = absurd not_so
@@ -291,7 +291,7 @@ module _ {D : Type 0} (is_lawful : D → Type 0) (state : D → DiskState) (fail
   quiet_settle (Written w) old new not_so = absurd not_so
   quiet_settle (Refused e b) old new is = refl
 
-  quiet_collect : (r : Reply) (old new : Keeping D) → Obeys is_lawful state failures answers Collect r old new → line_of marks 0 r ≡ []
+  quiet_collect : (r : Reply) (old new : Keeping D) → Obeys view answers Collect r old new → line_of marks 0 r ≡ []
   quiet_collect (Submitted n) old new not_so = absurd not_so
   quiet_collect (SubmittedAs n) old new not_so = absurd not_so
   quiet_collect (SubmittedAll n m) old new not_so = absurd not_so
@@ -306,7 +306,7 @@ module _ {D : Type 0} (is_lawful : D → Type 0) (state : D → DiskState) (fail
   quiet_collect (Written w) old new not_so = absurd not_so
   quiet_collect (Refused e b) old new is = refl
 
-  quiet_cut : (r : Reply) (old new : Keeping D) → Obeys is_lawful state failures answers Cut r old new → line_of marks 0 r ≡ []
+  quiet_cut : (r : Reply) (old new : Keeping D) → Obeys view answers Cut r old new → line_of marks 0 r ≡ []
   quiet_cut (Submitted n) old new not_so = absurd not_so
   quiet_cut (SubmittedAs n) old new not_so = absurd not_so
   quiet_cut (SubmittedAll n m) old new not_so = absurd not_so
@@ -321,7 +321,7 @@ module _ {D : Type 0} (is_lawful : D → Type 0) (state : D → DiskState) (fail
   quiet_cut (Written w) old new not_so = absurd not_so
   quiet_cut (Refused e b) old new is = refl
 
-  quiet_cut_up_to : (most : ℕ) (r : Reply) (old new : Keeping D) → Obeys is_lawful state failures answers (CutUpTo most) r old new → line_of marks 0 r ≡ []
+  quiet_cut_up_to : (most : ℕ) (r : Reply) (old new : Keeping D) → Obeys view answers (CutUpTo most) r old new → line_of marks 0 r ≡ []
   quiet_cut_up_to most (Submitted n) old new not_so = absurd not_so
   quiet_cut_up_to most (SubmittedAs n) old new not_so = absurd not_so
   quiet_cut_up_to most (SubmittedAll n m) old new not_so = absurd not_so
@@ -336,7 +336,7 @@ module _ {D : Type 0} (is_lawful : D → Type 0) (state : D → DiskState) (fail
   quiet_cut_up_to most (Written w) old new not_so = absurd not_so
   quiet_cut_up_to most (Refused e b) old new is = refl
 
-  quiet_close : (most : ℕ) (r : Reply) (old new : Keeping D) → Obeys is_lawful state failures answers (CloseFree most) r old new → line_of marks 0 r ≡ []
+  quiet_close : (most : ℕ) (r : Reply) (old new : Keeping D) → Obeys view answers (CloseFree most) r old new → line_of marks 0 r ≡ []
   quiet_close most (Submitted n) old new not_so = absurd not_so.0
   quiet_close most (SubmittedAs n) old new not_so = absurd not_so.0
   quiet_close most (SubmittedAll n m) old new not_so = absurd not_so.0
@@ -352,8 +352,8 @@ module _ {D : Type 0} (is_lawful : D → Type 0) (state : D → DiskState) (fail
   quiet_close most (Refused e b) old new is = refl
 
   -- releasing, settling, collecting, cutting and closing cells write no line
-  pub quietly : (w : Option (List ℕ)) (c : Command) (r : Reply) (old new : Keeping D) → is_quiet c ≡ true → Obeys is_lawful state failures answers c r old new
-      → Driven is_lawful state failures answers (c ∷ []) (r ∷ []) old new → Says is_lawful state failures answers marks w w old new [] []
+  pub quietly : (w : Option (List ℕ)) (c : Command) (r : Reply) (old new : Keeping D) → is_quiet c ≡ true → Obeys view answers c r old new
+      → Driven view answers (c ∷ []) (r ∷ []) old new → Says view answers marks w w old new [] []
   quietly w Release r old new quiet is driven = says_silent w Release r old new driven (quiet_release r old new is)
   quietly w Settle r old new quiet is driven = says_silent w Settle r old new driven (quiet_settle r old new is)
   quietly w Collect r old new quiet is driven = says_silent w Collect r old new driven (quiet_collect r old new is)
@@ -369,23 +369,23 @@ module _ {D : Type 0} (is_lawful : D → Type 0) (state : D → DiskState) (fail
 
   -- the lines of one reply, where they were to be written
   pub said_by : (result : Result (Unit {0}) Fault) (w v : Option (List ℕ)) (c : Command) (r : Reply) (old new : Keeping D) (x : List AnySubmitted) (P : Type 0)
-      → Driven is_lawful state failures answers (c ∷ []) (r ∷ []) old new → submitted_in c r ≡ x → OnOk result (Appends w v (line_of marks (request_in c) r))
-      → IfErr result (λ f. (f ≡ Output) ⊎ ((f ≡ Memory) × P)) → (P → v ≡ w) → SaysBy is_lawful state failures answers marks result w v old new x []
+      → Driven view answers (c ∷ []) (r ∷ []) old new → submitted_in c r ≡ x → OnOk result (Appends w v (line_of marks (request_in c) r))
+      → IfErr result (λ f. (f ≡ Output) ⊎ ((f ≡ Memory) × P)) → (P → v ≡ w) → SaysBy view answers marks result w v old new x []
   said_by (Ok done) w v c r old new x P driven is said none same =
-      subst (λ (l : List AnySubmitted). Says is_lawful state failures answers marks w v old new l []) is (says_one w v c r old new driven said)
+      subst (λ (l : List AnySubmitted). Says view answers marks w v old new l []) is (says_one w v c r old new driven said)
   said_by (Err f) w v c r old new x P driven is said why same =
-      ⊎_elim (λ output. inl (output, unheard w w old new [] (unsaid_one w c r old new driven))) (λ memory. inr (subst (λ (u : Option (List ℕ)). SaysSome is_lawful state failures answers marks w u old new []) (sym (same memory.1)) (unsaid_one w c r old new driven))) why
+      ⊎_elim (λ output. inl (output, unheard w w old new [] (unsaid_one w c r old new driven))) (λ memory. inr (subst (λ (u : Option (List ℕ)). SaysSome view answers marks w u old new []) (sym (same memory.1)) (unsaid_one w c r old new driven))) why
 
   -- the line of a note, where it was to be written
   pub noted_by : (result : Result (Unit {0}) Fault) (w v : Option (List ℕ)) (n : Note) (k : Keeping D) (P : Type 0) → OnOk result (Appends w v (note_line n))
-      → IfErr result (λ f. (f ≡ Output) ⊎ ((f ≡ Memory) × P)) → (P → v ≡ w) → SaysBy is_lawful state failures answers marks result w v k k [] (to_say n ∷ [])
+      → IfErr result (λ f. (f ≡ Output) ⊎ ((f ≡ Memory) × P)) → (P → v ≡ w) → SaysBy view answers marks result w v k k [] (to_say n ∷ [])
   noted_by (Ok done) w v n k P said none same = says_note w v n k said
   noted_by (Err f) w v n k P said why same =
       ⊎_elim (λ output. inl (output, unheard w w k k (to_say n ∷ []) (unsaid_none w k (to_say n ∷ []))))
-      (λ memory. inr (subst (λ (u : Option (List ℕ)). SaysSome is_lawful state failures answers marks w u k k (to_say n ∷ [])) (sym (same memory.1)) (unsaid_none w k (to_say n ∷ [])))) why
+      (λ memory. inr (subst (λ (u : Option (List ℕ)). SaysSome view answers marks w u k k (to_say n ∷ [])) (sym (same memory.1)) (unsaid_none w k (to_say n ∷ [])))) why
 
   -- that a copy was made was written, or why it was not
-  pub says_copied : (before after : Option (List ℕ)) (n : List ℕ) (s : Sizes) (e : ℕ) (k : Keeping D) → Appends before after (copied_line n e) → Says is_lawful state failures answers marks before after k k [] (to_copy n s (Some e) ∷ [])
+  pub says_copied : (before after : Option (List ℕ)) (n : List ℕ) (s : Sizes) (e : ℕ) (k : Keeping D) → Appends before after (copied_line n e) → Says view answers marks before after k k [] (to_copy n s (Some e) ∷ [])
   says_copied before after n s e k said = record {
     sayings = copied n s e ∷ [];
     driven = refl;
@@ -394,7 +394,7 @@ module _ {D : Type 0} (is_lawful : D → Type 0) (state : D → DiskState) (fail
     said = subst (λ (l : List ℕ). Appends before after l) (sym (append-nil (copied_line n e))) said;
   }
 
-  pub says_not_copied : (before after : Option (List ℕ)) (n : List ℕ) (s : Sizes) (why : List ℕ) (k : Keeping D) → Appends before after (not_copied_line n why) → Says is_lawful state failures answers marks before after k k [] (to_copy n s None ∷ [])
+  pub says_not_copied : (before after : Option (List ℕ)) (n : List ℕ) (s : Sizes) (why : List ℕ) (k : Keeping D) → Appends before after (not_copied_line n why) → Says view answers marks before after k k [] (to_copy n s None ∷ [])
   says_not_copied before after n s why k said = record {
     sayings = not_copied n s why ∷ [];
     driven = refl;
@@ -404,16 +404,16 @@ module _ {D : Type 0} (is_lawful : D → Type 0) (state : D → DiskState) (fail
   }
 
   -- a line that stands for one of these, where it was to be written
-  pub line_by : (result : Result (Unit {0}) Fault) (w v : Option (List ℕ)) (line : List ℕ) (ns : List Aside) (k : Keeping D) (P : Type 0) → (Appends w v line → Says is_lawful state failures answers marks w v k k [] ns)
-      → OnOk result (Appends w v line) → IfErr result (λ f. (f ≡ Output) ⊎ ((f ≡ Memory) × P)) → (P → v ≡ w) → SaysBy is_lawful state failures answers marks result w v k k [] ns
+  pub line_by : (result : Result (Unit {0}) Fault) (w v : Option (List ℕ)) (line : List ℕ) (ns : List Aside) (k : Keeping D) (P : Type 0) → (Appends w v line → Says view answers marks w v k k [] ns)
+      → OnOk result (Appends w v line) → IfErr result (λ f. (f ≡ Output) ⊎ ((f ≡ Memory) × P)) → (P → v ≡ w) → SaysBy view answers marks result w v k k [] ns
   line_by (Ok done) w v line ns k P says said none same = says said
   line_by (Err f) w v line ns k P says said why same =
       ⊎_elim (λ output. inl (output, unheard w w k k ns (unsaid_none w k ns)))
-      (λ memory. inr (subst (λ (u : Option (List ℕ)). SaysSome is_lawful state failures answers marks w u k k ns) (sym (same memory.1)) (unsaid_none w k ns))) why
+      (λ memory. inr (subst (λ (u : Option (List ℕ)). SaysSome view answers marks w u k k ns) (sym (same memory.1)) (unsaid_none w k ns))) why
 
   -- an answer, of which nothing was written
-  unsaid_answer : (w : Option (List ℕ)) (v : ℕ) (q : Of) (r : Reply) (old new : Keeping D) → Driven is_lawful state failures answers (Answer v q ∷ []) (r ∷ []) old new
-      → SaysSome is_lawful state failures answers marks w w old new (to_answer v q ∷ [])
+  unsaid_answer : (w : Option (List ℕ)) (v : ℕ) (q : Of) (r : Reply) (old new : Keeping D) → Driven view answers (Answer v q ∷ []) (r ∷ []) old new
+      → SaysSome view answers marks w w old new (to_answer v q ∷ [])
   unsaid_answer w v q r old new driven = record {
     sayings = answered v q r ∷ [];
     driven = driven;
@@ -427,41 +427,41 @@ module _ {D : Type 0} (is_lawful : D → Type 0) (state : D → DiskState) (fail
 
   -- the lines of an answer, where they were to be written
   pub answered_by : (result : Result (Unit {0}) Fault) (w u : Option (List ℕ)) (v : ℕ) (q : Of) (r : Reply) (old new : Keeping D) (P : Type 0)
-      → Driven is_lawful state failures answers (Answer v q ∷ []) (r ∷ []) old new → OnOk result (Appends w u (answer_text v q r))
-      → IfErr result (λ f. (f ≡ Output) ⊎ ((f ≡ Memory) × P)) → (P → u ≡ w) → SaysBy is_lawful state failures answers marks result w u old new [] (to_answer v q ∷ [])
+      → Driven view answers (Answer v q ∷ []) (r ∷ []) old new → OnOk result (Appends w u (answer_text v q r))
+      → IfErr result (λ f. (f ≡ Output) ⊎ ((f ≡ Memory) × P)) → (P → u ≡ w) → SaysBy view answers marks result w u old new [] (to_answer v q ∷ [])
   answered_by (Ok done) w u v q r old new P driven said none same = says_answer w u v q r old new driven said
   answered_by (Err f) w u v q r old new P driven said why same =
       ⊎_elim (λ output. inl (output, unheard w w old new (to_answer v q ∷ []) (unsaid_answer w v q r old new driven)))
-      (λ memory. inr (subst (λ (t : Option (List ℕ)). SaysSome is_lawful state failures answers marks w t old new (to_answer v q ∷ [])) (sym (same memory.1)) (unsaid_answer w v q r old new driven))) why
+      (λ memory. inr (subst (λ (t : Option (List ℕ)). SaysSome view answers marks w t old new (to_answer v q ∷ [])) (sym (same memory.1)) (unsaid_answer w v q r old new driven))) why
 
   -- a question that was not answered
-  pub unanswered : (w : Option (List ℕ)) (c : Command) (old new : Keeping D) (ns : List Aside) → Refuses is_lawful state failures answers c old new → SaysSome is_lawful state failures answers marks w w old new ns
+  pub unanswered : (w : Option (List ℕ)) (c : Command) (old new : Keeping D) (ns : List Aside) → Refuses view answers c old new → SaysSome view answers marks w w old new ns
   unanswered w c old new ns refuses = some_of_more w w old new [] ns ns refl (refused_some w c old new refuses)
 
   -- the line that the journal is full, where it was to be written
   pub full_by : (result : Result (Unit {0}) Fault) (w v : Option (List ℕ)) (e : ℕ) (k : Keeping D) (P : Type 0) → OnOk result (Appends w v (full_line e))
-      → IfErr result (λ f. (f ≡ Output) ⊎ ((f ≡ Memory) × P)) → (P → v ≡ w) → SaysBy is_lawful state failures answers marks result w v k k [] []
+      → IfErr result (λ f. (f ≡ Output) ⊎ ((f ≡ Memory) × P)) → (P → v ≡ w) → SaysBy view answers marks result w v k k [] []
   full_by (Ok done) w v e k P said none same = says_full w v e k said
   full_by (Err f) w v e k P said why same =
       ⊎_elim (λ output. inl (output, unheard w w k k [] (unsaid_none w k [])))
-      (λ memory. inr (subst (λ (u : Option (List ℕ)). SaysSome is_lawful state failures answers marks w u k k []) (sym (same memory.1)) (unsaid_none w k []))) why
+      (λ memory. inr (subst (λ (u : Option (List ℕ)). SaysSome view answers marks w u k k []) (sym (same memory.1)) (unsaid_none w k []))) why
 
   -- after what was said
-  pub then_quiet : (result : Result (Unit {0}) Fault) (u v w : Option (List ℕ)) (a b c : Keeping D) (x : List AnySubmitted) (ns : List Aside) → Says is_lawful state failures answers marks u v a b x ns
-      → SaysBy is_lawful state failures answers marks result v w b c [] [] → SaysBy is_lawful state failures answers marks result u w a c x ns
+  pub then_quiet : (result : Result (Unit {0}) Fault) (u v w : Option (List ℕ)) (a b c : Keeping D) (x : List AnySubmitted) (ns : List Aside) → Says view answers marks u v a b x ns
+      → SaysBy view answers marks result v w b c [] [] → SaysBy view answers marks result u w a c x ns
   then_quiet result u v w a b c x ns first rest =
-      subst (λ (l : List AnySubmitted). SaysBy is_lawful state failures answers marks result u w a c l ns) (append-nil x)
-      (subst (λ (l : List Aside). SaysBy is_lawful state failures answers marks result u w a c (x ++ []) l) (append-nil ns) (then_by result u v w a b c x [] ns [] first rest))
+      subst (λ (l : List AnySubmitted). SaysBy view answers marks result u w a c l ns) (append-nil x)
+      (subst (λ (l : List Aside). SaysBy view answers marks result u w a c (x ++ []) l) (append-nil ns) (then_by result u v w a b c x [] ns [] first rest))
 
   -- and a command that was refused
   pub then_refused : (result : Result (Unit {0}) Fault) (P : Fault → Type 0) (u v : Option (List ℕ)) (command : Command) (a b c : Keeping D) (x y : List AnySubmitted) → IsErrAnd result P
-      → Says is_lawful state failures answers marks u v a b x [] → Refuses is_lawful state failures answers command b c → SaysBy is_lawful state failures answers marks result u v a c y []
+      → Says view answers marks u v a b x [] → Refuses view answers command b c → SaysBy view answers marks result u v a c y []
   then_refused result P u v command a b c x y is first refused =
       by_refusal result P u v a c y [] is (λ f holds. inr (then_some u v v a b c x [] [] first (refused_some v command b c refused)))
 
   -- OUTPUTS THAT ARE HELD BACK: the lines of the replies are what was written, and what is held
   pub record Holding (before after : Option (List ℕ)) (old new : Keeping D) (held : List ℕ) : Type 0 where
-    pub some : SaysSome is_lawful state failures answers marks before after old new []
+    pub some : SaysSome view answers marks before after old new []
     pub held_is : some.unsaid ≡ held
     pub none : submitted_by (commands_in some.sayings) (replies_in some.sayings) ≡ []
 
@@ -474,7 +474,7 @@ module _ {D : Type 0} (is_lawful : D → Type 0) (state : D → DiskState) (fail
 
   -- one reply more, whose lines are held too
   pub holding_more : (u v : Option (List ℕ)) (a b c : Keeping D) (o : Option EpochOut) (held more : List ℕ) → Holding u v a b held
-      → Driven is_lawful state failures answers (NextOut ∷ []) (Out o ∷ []) b c → more ≡ held ++ line_of marks 0 (Out o) → Holding u v a c more
+      → Driven view answers (NextOut ∷ []) (Out o ∷ []) b c → more ≡ held ++ line_of marks 0 (Out o) → Holding u v a c more
   holding_more u v a b c o held more so_far driven is =
       let s = so_far.some in
       let one : List Saying = replied NextOut (Out o) ∷ [] in
@@ -518,9 +518,9 @@ module _ {D : Type 0} (is_lawful : D → Type 0) (state : D → DiskState) (fail
   quiet_refused Closed is = absurd (let no : false ≡ true = is in cc)
 
   -- and a command that is refused
-  pub holding_refused : (u v : Option (List ℕ)) (a b c : Keeping D) (held : List ℕ) → Holding u v a b held → Refuses is_lawful state failures answers NextOut b c
-      → SaysSome is_lawful state failures answers marks u v a c []
-  holding_refused u v a b c held so_far (inl is) = subst (λ (k : Keeping D). SaysSome is_lawful state failures answers marks u v a k []) (sym is) so_far.some
+  pub holding_refused : (u v : Option (List ℕ)) (a b c : Keeping D) (held : List ℕ) → Holding u v a b held → Refuses view answers NextOut b c
+      → SaysSome view answers marks u v a c []
+  holding_refused u v a b c held so_far (inl is) = subst (λ (k : Keeping D). SaysSome view answers marks u v a k []) (sym is) so_far.some
   holding_refused u v a b c held so_far (inr told) =
       let s = so_far.some in
       let one : List Saying = replied NextOut told.0 ∷ [] in
@@ -568,7 +568,7 @@ module _ {D : Type 0} (is_lawful : D → Type 0) (state : D → DiskState) (fail
   no_notes [] later is = refl
   no_notes (n ∷ ns) later is = absurd (let no = is in cc)
 
-  pub all_written : (u v : Option (List ℕ)) (a b : Keeping D) (held : List ℕ) → Holding u v a b held → held ≡ [] → Says is_lawful state failures answers marks u v a b [] []
+  pub all_written : (u v : Option (List ℕ)) (a b : Keeping D) (held : List ℕ) → Holding u v a b held → held ≡ [] → Says view answers marks u v a b [] []
   all_written u v a b held so_far none =
       let s = so_far.some in
       record {
@@ -581,7 +581,7 @@ module _ {D : Type 0} (is_lawful : D → Type 0) (state : D → DiskState) (fail
 
   -- the last of it
   pub last_written : (result : Result (Unit {0}) Fault) (u v w : Option (List ℕ)) (a b : Keeping D) (held : List ℕ) → Holding u v a b held
-      → OnOk result (Appends v w held) → IfErr result (λ f. f ≡ Output) → SaysBy is_lawful state failures answers marks result u w a b [] []
+      → OnOk result (Appends v w held) → IfErr result (λ f. f ≡ Output) → SaysBy view answers marks result u w a b [] []
   last_written (Ok done) u v w a b held so_far written why = all_written u w a b [] (holding_written u v w a b held [] so_far written refl) refl
   last_written (Err f) u v w a b held so_far written why = inl (why, unheard u v a b [] so_far.some)
 
@@ -602,29 +602,29 @@ output_no_device (Err f) why is = absurd (let not_so = is in let other = why in 
 abbrev pub EndedAs : Result (Unit {0}) Fault → Result (Unit {0}) PoolError → Fault → Type 0
 EndedAs obeyed worked f = (obeyed ≡ Err f) ⊎ (((obeyed ≡ Ok tt) ⊎ ((e : ℕ) × (obeyed ≡ Err (Keeper (error.NotPassed e))))) × ((r : PoolError) × (worked ≡ Err r) × (f ≡ pool_fault r)))
 
-module _ {D : Type 0} (is_lawful : D → Type 0) (state : D → DiskState) (failures : D → ℕ) (answers : Answers) (marks : Bool) (u v : Option (List ℕ)) (a b : Keeping D) (x : List AnySubmitted) (ns : List Aside) where
-  some_by : (obeyed : Result (Unit {0}) Fault) → SaysBy is_lawful state failures answers marks obeyed u v a b x ns → (obeyed ≡ Ok tt) ⊎ ((e : ℕ) × (obeyed ≡ Err (Keeper (error.NotPassed e))))
-      → SaysSome is_lawful state failures answers marks u v a b ns
-  some_by (Ok done) says why = some_of_all is_lawful state failures answers marks u v a b x ns says
+module _ {D : Type 0} (view : D → DiskView) (answers : Answers) (marks : Bool) (u v : Option (List ℕ)) (a b : Keeping D) (x : List AnySubmitted) (ns : List Aside) where
+  some_by : (obeyed : Result (Unit {0}) Fault) → SaysBy view answers marks obeyed u v a b x ns → (obeyed ≡ Ok tt) ⊎ ((e : ℕ) × (obeyed ≡ Err (Keeper (error.NotPassed e))))
+      → SaysSome view answers marks u v a b ns
+  some_by (Ok done) says why = some_of_all view answers marks u v a b x ns says
   some_by (Err f) says why =
       ⊎_elim (λ output. ⊎_elim (λ not_so. absurd (let is = not_so in cc)) (λ unpassed. absurd (let is = unpassed.1 in let other = output.0 in cc)) why) (λ some. some) says
 
   pub ended_says : (obeyed result : Result (Unit {0}) Fault) (worked : Result (Unit {0}) PoolError) → OnOk result ((obeyed ≡ Ok tt) × (worked ≡ Ok tt)) → IfErr result (EndedAs obeyed worked)
-      → SaysBy is_lawful state failures answers marks obeyed u v a b x ns → SaysBy is_lawful state failures answers marks result u v a b x ns
-  ended_says obeyed (Ok done) worked ok err says = subst (λ (r : Result (Unit {0}) Fault). SaysBy is_lawful state failures answers marks r u v a b x ns) ok.0 says
+      → SaysBy view answers marks obeyed u v a b x ns → SaysBy view answers marks result u v a b x ns
+  ended_says obeyed (Ok done) worked ok err says = subst (λ (r : Result (Unit {0}) Fault). SaysBy view answers marks r u v a b x ns) ok.0 says
   ended_says obeyed (Err f) worked ok err says =
-      ⊎_elim (λ same. subst (λ (r : Result (Unit {0}) Fault). SaysBy is_lawful state failures answers marks r u v a b x ns) same says) (λ other. inr (some_by obeyed says other.0)) err
+      ⊎_elim (λ same. subst (λ (r : Result (Unit {0}) Fault). SaysBy view answers marks r u v a b x ns) same says) (λ other. inr (some_by obeyed says other.0)) err
 
 -- a feed of a disk
-module _ {D : Type 0} (is_lawful : D → Type 0) (state : D → DiskState) (failures : D → ℕ) (answers : Answers) (marks : Bool) where
+module _ {D : Type 0} (view : D → DiskView) (answers : Answers) (marks : Bool) where
   pub fed_says : (result : Result (Unit {0}) Fault) (plan : List PlanLine) (alone : Bool) (disk left : D) (before after : Option (List ℕ)) (wanted : Wanted)
-      → SaysFrom is_lawful state failures answers marks result plan alone disk left before after wanted → SaysFed is_lawful state failures answers marks result plan alone disk left before after wanted
+      → SaysFrom view answers marks result plan alone disk left before after wanted → SaysFed view answers marks result plan alone disk left before after wanted
   fed_says (Ok done) plan alone disk left before after wanted says = says
   fed_says (Err f) plan alone disk left before after wanted says = inr says
 
   -- and which copies its lines say were made
   pub says_copies : (result : Result (Unit {0}) Fault) (plan : List PlanLine) (alone : Bool) (disk left : D) (before after : Option (List ℕ)) (wanted : Wanted)
-      (says : SaysFrom is_lawful state failures answers marks result plan alone disk left before after wanted) → copies_said is_lawful state failures answers marks result plan alone disk left before after wanted (fed_says result plan alone disk left before after wanted says) ≡ copied_in says.notes
+      (says : SaysFrom view answers marks result plan alone disk left before after wanted) → copies_said view answers marks result plan alone disk left before after wanted (fed_says result plan alone disk left before after wanted says) ≡ copied_in says.notes
   unfolding fed_says
   says_copies (Ok done) plan alone disk left before after wanted says = refl
   says_copies (Err f) plan alone disk left before after wanted says = refl

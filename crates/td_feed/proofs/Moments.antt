@@ -6,9 +6,9 @@ use Rattle.td_plan.specs.Lines.{Line}
 use Rattle.td_plan.specs.Tree.{tree_of}
 use Rattle.td_calls.specs.Answers.{Answers}
 use Rattle.td_journal.specs.declared.submitted.Submitted.{Submitted}
-use Rattle.td_standing.specs.Standing.{Standing, last_epoch}
-use Rattle.td_standing.specs.Stops.{Stands}
-use Rattle.td_standing.specs.Advanced.{TellsAdvance, states_by}
+use Rattle.td_store.specs.standing.Standing.{Standing, last_epoch}
+use Rattle.td_store.specs.standing.Stops.{Stands}
+use Rattle.td_store.specs.standing.Advanced.{TellsAdvance, states_by}
 use Rattle.td_feed.specs.Fed.{TellsOnward}
 use Rattle.td_feed.proofs.Carrying.{Stands-on, as_long}
 

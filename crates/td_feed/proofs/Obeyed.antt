@@ -4,11 +4,11 @@ use Rattle.std.specs.Prelude.{Option, Some, None, Result, Ok, Err, OnOk}
 use Rattle.std.proofs.lemmas.Option.{IfSome_then}
 use Rattle.std.specs.Option.{IfSome}
 use Rattle.td_calls.specs.Answers.{Answers}
-use Rattle.td_disk.specs.Disk.{DiskState}
+use Rattle.td_disk.specs.Disk.{DiskView, DiskState}
 use Rattle.td_journal.specs.declared.submitted.Submitted.{Submitted}
 use Rattle.td_journal.specs.Numbers.{greatest}
 use Rattle.td_stamp.specs.declared.values.Entry.{Entry}
-use Rattle.td_standing.specs.Standing.{last_request, submission}
+use Rattle.td_store.specs.standing.Standing.{last_request, submission}
 use Rattle.td_keeper.specs.Keeping.{Keeping}
 use Rattle.td_feed.specs.declared.order.Order.{Order}
 use Rattle.td_feed.specs.declared.at_once.Asked.{Asked}
@@ -139,20 +139,20 @@ module _ {D : Type 0} where
   seen_then_same first seen done old there new has same =
       record { now = has.now; keeps = keeps_then (then_seen first done) old there new has.keeps (keeps_same (then_seen first done) same) }
 
-module _ {D E : Type 0} (is_lawful : D → Type 0) (state : D → DiskState) (failures : D → ℕ) (answers : Answers) (marks : Bool) (is_new_lawful : E → Type 0) (new_state : E → DiskState) where
+module _ {D E : Type 0} (view : D → DiskView) (answers : Answers) (marks : Bool) (new_view : E → DiskView) where
   -- THE ORDERS SO FAR were obeyed by a keeper, its lines written, and the copies for which they ask made
   pub record HasObeyed (all left : Option Script) (u v : Option (List ℕ)) (had has : Option (List (Copied E))) (old new : Keeping D) (first seen : Option ℕ) : Type 0 where
     pub done : List Order
     pub known : IsPart all done left
     pub answered : List Aside
     pub came : ComeOf (notes_in done) answered
-    pub said : Says is_lawful state failures answers marks u v old new (new_to old (submissions done)) answered
-    pub copied : MakesCopies is_lawful is_new_lawful new_state answers (copied_in answered) had has old (new_to old (submissions done))
+    pub said : Says view answers marks u v old new (new_to old (submissions done)) answered
+    pub copied : MakesCopies view new_view answers (copied_in answered) had has old (new_to old (submissions done))
     pub carried : Carries answers old new (new_to old (submissions done))
-    pub sound : is_lawful old.device → is_lawful new.device
+    pub sound : (view old.device).lawful → (view new.device).lawful
     pub held : HasSeen first done seen old new
 
-  pub none_obeyed : (all : Option Script) (u v : Option (List ℕ)) (kept : Option (List (Copied E))) (old new : Keeping D) (first : Option ℕ) → Says is_lawful state failures answers marks u v old new [] [] → Carries answers old new [] → (is_lawful old.device → is_lawful new.device)
+  pub none_obeyed : (all : Option Script) (u v : Option (List ℕ)) (kept : Option (List (Copied E))) (old new : Keeping D) (first : Option ℕ) → Says view answers marks u v old new [] [] → Carries answers old new [] → ((view old.device).lawful → (view new.device).lawful)
       → KeepsTo first old new → HasObeyed all all u v kept kept old new first first
   none_obeyed all u v kept old new first said carried sound keeps = record {
     done = [];
@@ -160,7 +160,7 @@ module _ {D E : Type 0} (is_lawful : D → Type 0) (state : D → DiskState) (fa
     answered = [];
     came = refl;
     said = said;
-    copied = none_made is_lawful is_new_lawful new_state answers kept old [];
+    copied = none_made view new_view answers kept old [];
     carried = carried;
     sound = sound;
     held = seen_first first old new keeps;
@@ -172,17 +172,17 @@ module _ {D E : Type 0} (is_lawful : D → Type 0) (state : D → DiskState) (fa
 
   -- what came of some orders, and the notes of those after them, of which nothing is done
   whole_script : (all done later : List Order) (answered : List Aside) (had has : Option (List (Copied E))) (old : Keeping D) (x : List Submitted) → all ≡ done ++ later → new_to old (submissions done) ≡ x
-      → ComeOf (notes_in done) answered → MakesCopies is_lawful is_new_lawful new_state answers (copied_in answered) had has old x
-      → (rest : List Aside) × ComeOf (notes_in all) (answered ++ rest) × MakesCopies is_lawful is_new_lawful new_state answers (copied_in (answered ++ rest)) had has old (new_to old (submissions all))
+      → ComeOf (notes_in done) answered → MakesCopies view new_view answers (copied_in answered) had has old x
+      → (rest : List Aside) × ComeOf (notes_in all) (answered ++ rest) × MakesCopies view new_view answers (copied_in (answered ++ rest)) had has old (new_to old (submissions all))
   whole_script all done later answered had has old x parts is came copied = (
     notes_in later,
     come-append (notes_in done) (notes_in later) answered (notes_in later) came (as_they_ask later) ∙ sym (ap notes_in parts ∙ notes-append done later),
     (let said : copied_in (answered ++ notes_in later) ≡ copied_in answered = copied-append answered (notes_in later) ∙ ap (λ (l : List (List ℕ × ℕ)). copied_in answered ++ l) (none_yet later) ∙ append-nil (copied_in answered) in
         let more : List Submitted = new_after (greatest (last_request old.standing) (new_to old (submissions done))) (submissions later) in
         let whole : new_to old (submissions all) ≡ x ++ more = ap (new_to old) (ap submissions parts ∙ submissions-append done later) ∙ new_after-append (last_request old.standing) (submissions done) (submissions later) ∙ ap (λ (l : List Submitted). l ++ more) is in
-        subst (λ (y : List Submitted). MakesCopies is_lawful is_new_lawful new_state answers (copied_in (answered ++ notes_in later)) had has old y) (sym whole)
-        (subst (λ (l : List (List ℕ × ℕ)). MakesCopies is_lawful is_new_lawful new_state answers l had has old (x ++ more)) (sym said)
-        (made_within is_lawful is_new_lawful new_state answers (copied_in answered) had has old x more copied))),
+        subst (λ (y : List Submitted). MakesCopies view new_view answers (copied_in (answered ++ notes_in later)) had has old y) (sym whole)
+        (subst (λ (l : List (List ℕ × ℕ)). MakesCopies view new_view answers l had has old (x ++ more)) (sym said)
+        (made_within view new_view answers (copied_in answered) had has old x more copied))),
   )
 
   module _ (all left next : Option Script) (u v w : Option (List ℕ)) (had has then : Option (List (Copied E))) (old there new : Keeping D) (asked : Asked) (first seen : Option ℕ) (so : HasObeyed all left u v had has old there first seen) (asks : Asks left next (Some asked)) where
@@ -215,22 +215,22 @@ module _ {D E : Type 0} (is_lawful : D → Type 0) (state : D → DiskState) (fa
     came_so_far : (more_done : List Aside) → ComeOf noted more_done → ComeOf (notes_in (so.done ++ orders.0)) (so.answered ++ more_done)
     came_so_far more_done came = come-append (notes_in so.done) noted so.answered more_done so.came came ∙ sym noted_so_far
 
-    copied_so_far : (more_done : List Aside) → MakesCopies is_lawful is_new_lawful new_state answers (copied_in more_done) has then there (new_to there more)
-        → MakesCopies is_lawful is_new_lawful new_state answers (copied_in (so.answered ++ more_done)) had then old (new_to old (submissions so.done) ++ new_to there more)
+    copied_so_far : (more_done : List Aside) → MakesCopies view new_view answers (copied_in more_done) has then there (new_to there more)
+        → MakesCopies view new_view answers (copied_in (so.answered ++ more_done)) had then old (new_to old (submissions so.done) ++ new_to there more)
     copied_so_far more_done copied =
-        subst (λ (said : List (List ℕ × ℕ)). MakesCopies is_lawful is_new_lawful new_state answers said had then old (new_to old (submissions so.done) ++ new_to there more)) (sym (copied-append so.answered more_done))
-        (made_then is_lawful is_new_lawful new_state answers (copied_in so.answered) (copied_in more_done) had has then old there (new_to old (submissions so.done)) (new_to there more) so.sound so.carried so.copied copied)
+        subst (λ (said : List (List ℕ × ℕ)). MakesCopies view new_view answers said had then old (new_to old (submissions so.done) ++ new_to there more)) (sym (copied-append so.answered more_done))
+        (made_then view new_view answers (copied_in so.answered) (copied_in more_done) had has then old there (new_to old (submissions so.done)) (new_to there more) so.sound so.carried so.copied copied)
 
-    pub some_obeyed : (later : Option ℕ) → later ≡ seen_with seen asked → KeepsTo later there new → (is_lawful there.device → is_lawful new.device) → (d : Unit {0})
-        → FeedsCopying is_lawful state failures answers marks is_new_lawful new_state (Ok d) v w has then there new (new_to there more) noted → HasObeyed all next u w had then old new first later
+    pub some_obeyed : (later : Option ℕ) → later ≡ seen_with seen asked → KeepsTo later there new → ((view there.device).lawful → (view new.device).lawful) → (d : Unit {0})
+        → FeedsCopying view answers marks new_view (Ok d) v w has then there new (new_to there more) noted → HasObeyed all next u w had then old new first later
     some_obeyed later is keeps sound d fed = record {
       done = so.done ++ orders.0;
       known = orders.2;
       answered = so.answered ++ fed.done;
       came = came_so_far fed.done fed.came;
-      said = subst (λ (x : List Submitted). Says is_lawful state failures answers marks u w old new x (so.answered ++ fed.done)) (sym also_new)
-          (says_then is_lawful state failures answers marks u v w old there new (new_to old (submissions so.done)) (new_to there more) so.answered fed.done so.said fed.fed.said);
-      copied = subst (λ (x : List Submitted). MakesCopies is_lawful is_new_lawful new_state answers (copied_in (so.answered ++ fed.done)) had then old x) (sym also_new) (copied_so_far fed.done fed.copied);
+      said = subst (λ (x : List Submitted). Says view answers marks u w old new x (so.answered ++ fed.done)) (sym also_new)
+          (says_then view answers marks u v w old there new (new_to old (submissions so.done)) (new_to there more) so.answered fed.done so.said fed.fed.said);
+      copied = subst (λ (x : List Submitted). MakesCopies view new_view answers (copied_in (so.answered ++ fed.done)) had then old x) (sym also_new) (copied_so_far fed.done fed.copied);
       carried = subst (λ (x : List Submitted). Carries answers old new x) (sym also_new) (then_carries answers old there new (new_to old (submissions so.done)) (new_to there more) so.carried fed.fed.carried);
       sound = λ lawful. sound (so.sound lawful);
       held = seen_asked first seen later so.done orders.0 asked old there new orders.4 so.held is keeps;
@@ -258,7 +258,7 @@ module _ {D E : Type 0} (is_lawful : D → Type 0) (state : D → DiskState) (fa
         told_over before first seen later so.done (so.done ++ orders.0) so.held.now (is ∙ ap (λ (o : Option ℕ). seen_with o asked) so.held.now ∙ seen_with_more first so.done orders.0 asked orders.4)
 
     -- or they were refused
-    pub some_refused : Leaves is_lawful state answers there new (new_to there more) → IfSome all (λ s. Leaves is_lawful state answers old new (new_to old (submissions s.orders)))
+    pub some_refused : Leaves view answers there new (new_to there more) → IfSome all (λ s. Leaves view answers old new (new_to old (submissions s.orders)))
     some_refused leaves = by all next orders.2
       where
         o : List Order
@@ -275,23 +275,23 @@ module _ {D E : Type 0} (is_lawful : D → Type 0) (state : D → DiskState) (fa
             ∙ new_on answers old there (submissions so.done) (more ++ submissions later) so.carried
             ∙ ap (λ (l : List Submitted). new_to old (submissions so.done) ++ l) (new_after-append (last_request there.standing) more (submissions later))
 
-        by : (all next : Option Script) → IsPart all (so.done ++ o) next → IfSome all (λ s. Leaves is_lawful state answers old new (new_to old (submissions s.orders)))
+        by : (all next : Option Script) → IsPart all (so.done ++ o) next → IfSome all (λ s. Leaves view answers old new (new_to old (submissions s.orders)))
         by None next is = tt
         by (Some s) None is = absurd is
         by (Some s) (Some n) is =
-            then_leaves is_lawful state answers old there new (new_to old (submissions so.done)) (new_to there more) (others n.orders) (new_to old (submissions s.orders))
+            then_leaves view answers old there new (new_to old (submissions so.done)) (new_to there more) (others n.orders) (new_to old (submissions s.orders))
             (whole s n.orders is.0) so.carried leaves
 
     -- what came of the script's notes, of which those after them are not done
     pub came_left : (more_done : List Aside) → ComeOf noted more_done
-        → MakesCopies is_lawful is_new_lawful new_state answers (copied_in more_done) has then there (new_to there more)
+        → MakesCopies view new_view answers (copied_in more_done) has then there (new_to there more)
         → IfSome all (λ s. (later : List Aside) × ComeOf (notes_in s.orders) ((so.answered ++ more_done) ++ later)
-        × MakesCopies is_lawful is_new_lawful new_state answers (copied_in ((so.answered ++ more_done) ++ later)) had then old (new_to old (submissions s.orders)))
+        × MakesCopies view new_view answers (copied_in ((so.answered ++ more_done) ++ later)) had then old (new_to old (submissions s.orders)))
     came_left more_done came copied = by all next orders.2
       where
         by : (all next : Option Script) → IsPart all (so.done ++ orders.0) next
             → IfSome all (λ s. (later : List Aside) × ComeOf (notes_in s.orders) ((so.answered ++ more_done) ++ later)
-            × MakesCopies is_lawful is_new_lawful new_state answers (copied_in ((so.answered ++ more_done) ++ later)) had then old (new_to old (submissions s.orders)))
+            × MakesCopies view new_view answers (copied_in ((so.answered ++ more_done) ++ later)) had then old (new_to old (submissions s.orders)))
         by None next is = tt
         by (Some s) None is = absurd is
         by (Some s) (Some n) is =
@@ -299,27 +299,27 @@ module _ {D E : Type 0} (is_lawful : D → Type 0) (state : D → DiskState) (fa
 
   module _ (all left next : Option Script) (u v : Option (List ℕ)) (had has : Option (List (Copied E))) (old there : Keeping D) (first seen : Option ℕ) (so : HasObeyed all left u v had has old there first seen) where
     pub came_there : IfSome all (λ s. (later : List Aside) × ComeOf (notes_in s.orders) (so.answered ++ later)
-        × MakesCopies is_lawful is_new_lawful new_state answers (copied_in (so.answered ++ later)) had has old (new_to old (submissions s.orders)))
+        × MakesCopies view new_view answers (copied_in (so.answered ++ later)) had has old (new_to old (submissions s.orders)))
     came_there = by all left so.known
       where
         by : (all left : Option Script) → IsPart all so.done left
             → IfSome all (λ s. (later : List Aside) × ComeOf (notes_in s.orders) (so.answered ++ later)
-            × MakesCopies is_lawful is_new_lawful new_state answers (copied_in (so.answered ++ later)) had has old (new_to old (submissions s.orders)))
+            × MakesCopies view new_view answers (copied_in (so.answered ++ later)) had has old (new_to old (submissions s.orders)))
         by None left is = tt
         by (Some s) None is = absurd is
         by (Some s) (Some l) is = whole_script s.orders so.done l.orders so.answered had has old (new_to old (submissions so.done)) is.0 refl so.came so.copied
 
     -- where no further one was asked for
-    pub left_there : IfSome all (λ s. Leaves is_lawful state answers old there (new_to old (submissions s.orders)))
+    pub left_there : IfSome all (λ s. Leaves view answers old there (new_to old (submissions s.orders)))
     left_there = by all left so.known
       where
-        by : (all left : Option Script) → IsPart all so.done left → IfSome all (λ s. Leaves is_lawful state answers old there (new_to old (submissions s.orders)))
+        by : (all left : Option Script) → IsPart all so.done left → IfSome all (λ s. Leaves view answers old there (new_to old (submissions s.orders)))
         by None left is = tt
         by (Some s) None is = absurd is
         by (Some s) (Some l) is =
-            then_leaves is_lawful state answers old there there (new_to old (submissions so.done)) [] (new_to there (submissions l.orders)) (new_to old (submissions s.orders))
+            then_leaves view answers old there there (new_to old (submissions so.done)) [] (new_to there (submissions l.orders)) (new_to old (submissions s.orders))
             (ap (new_to old) (ap submissions is.0 ∙ submissions-append so.done l.orders) ∙ new_on answers old there (submissions so.done) (submissions l.orders) so.carried)
-            so.carried (leaves_all is_lawful state answers there there [] (unmoved answers there there refl refl so.carried.whole))
+            so.carried (leaves_all view answers there there [] (unmoved answers there there refl refl so.carried.whole))
 
     -- nothing is kept beyond what was seen
     pub held_there : (new : Keeping D) → SameBase there new → IfSome all (λ s. KeepsTo (then_seen first s.orders) old new)
@@ -357,16 +357,16 @@ module _ {D E : Type 0} (is_lawful : D → Type 0) (state : D → DiskState) (fa
     pub at_end_carried : (new : Keeping D) → Asks left next None → Carries answers there new [] → IfSome all (λ s. Carries answers old new (new_to old (submissions s.orders)))
     at_end_carried new asks carried =
         IfSome_then all (all_done asks) (λ s is. subst (λ (os : List Order). Carries answers old new (new_to old (submissions os))) (sym is)
-        (carries_then is_lawful state answers old there new (new_to old (submissions so.done)) so.carried carried))
+        (carries_then view answers old there new (new_to old (submissions so.done)) so.carried carried))
 
-    pub at_end_left : (new : Keeping D) → Asks left next None → Carries answers there new [] → IfSome all (λ s. Leaves is_lawful state answers old new (new_to old (submissions s.orders)))
-    at_end_left new asks carried = IfSome_then all (at_end_carried new asks carried) (λ s whole. leaves_all is_lawful state answers old new (new_to old (submissions s.orders)) whole)
+    pub at_end_left : (new : Keeping D) → Asks left next None → Carries answers there new [] → IfSome all (λ s. Leaves view answers old new (new_to old (submissions s.orders)))
+    at_end_left new asks carried = IfSome_then all (at_end_carried new asks carried) (λ s whole. leaves_all view answers old new (new_to old (submissions s.orders)) whole)
 
-    pub at_end_said : (result : Result (Unit {0}) Fault) (w : Option (List ℕ)) (new : Keeping D) → Asks left next None → SaysBy is_lawful state failures answers marks result v w there new [] []
-        → IfSome all (λ s. SaysBy is_lawful state failures answers marks result u w old new (new_to old (submissions s.orders)) so.answered)
+    pub at_end_said : (result : Result (Unit {0}) Fault) (w : Option (List ℕ)) (new : Keeping D) → Asks left next None → SaysBy view answers marks result v w there new [] []
+        → IfSome all (λ s. SaysBy view answers marks result u w old new (new_to old (submissions s.orders)) so.answered)
     at_end_said result w new asks said =
-        IfSome_then all (all_done asks) (λ s is. subst (λ (os : List Order). SaysBy is_lawful state failures answers marks result u w old new (new_to old (submissions os)) so.answered) (sym is)
-        (then_quiet is_lawful state failures answers marks result u v w old there new (new_to old (submissions so.done)) so.answered so.said said))
+        IfSome_then all (all_done asks) (λ s is. subst (λ (os : List Order). SaysBy view answers marks result u w old new (new_to old (submissions os)) so.answered) (sym is)
+        (then_quiet view answers marks result u v w old there new (new_to old (submissions so.done)) so.answered so.said said))
 
     pub at_end_seen : (r : Result (Unit {0}) Fault) (before after : Option ℕ) → Asks left next None → after ≡ told_seen before seen → IfSome all (λ s. TellsSeen r first s.orders before after)
     at_end_seen r before after asks told =
@@ -375,13 +375,13 @@ module _ {D E : Type 0} (is_lawful : D → Type 0) (state : D → DiskState) (fa
     pub at_end_came : Asks left next None → IfSome all (λ s. ComeOf (notes_in s.orders) so.answered)
     at_end_came asks = IfSome_then all (all_done asks) (λ s is. so.came ∙ ap notes_in (sym is))
 
-    pub at_end_copied : Asks left next None → IfSome all (λ s. MakesCopies is_lawful is_new_lawful new_state answers (copied_in so.answered) had has old (new_to old (submissions s.orders)))
+    pub at_end_copied : Asks left next None → IfSome all (λ s. MakesCopies view new_view answers (copied_in so.answered) had has old (new_to old (submissions s.orders)))
     at_end_copied asks =
-        IfSome_then all (all_done asks) (λ s is. subst (λ (os : List Order). MakesCopies is_lawful is_new_lawful new_state answers (copied_in so.answered) had has old (new_to old (submissions os))) (sym is) so.copied)
+        IfSome_then all (all_done asks) (λ s is. subst (λ (os : List Order). MakesCopies view new_view answers (copied_in so.answered) had has old (new_to old (submissions os))) (sym is) so.copied)
 
   -- a refusal before the first order
-  pub none_left : (old new : Keeping D) (more : List Submitted) → old.broken ≡ false → Leaves is_lawful state answers old new [] → Leaves is_lawful state answers old new more
-  none_left old new more whole left = then_leaves is_lawful state answers old old new [] [] more more refl (unmoved answers old old refl refl whole) left
+  pub none_left : (old new : Keeping D) (more : List Submitted) → old.broken ≡ false → Leaves view answers old new [] → Leaves view answers old new more
+  none_left old new more whole left = then_leaves view answers old old new [] [] more more refl (unmoved answers old old refl refl whole) left
 
 -- there is none where there is not any
 pub none_of : {X : Type 0} (o : Option X) → ((x : X) → o ≡ Some x → ⊥) → o ≡ None

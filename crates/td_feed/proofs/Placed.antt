@@ -15,7 +15,7 @@ use Rattle.td_feed.specs.Asked.{Script, Reading, HaveNoPlace, IsOf, SameScript, 
 use Rattle.td_feed.specs.Held.{seen_then, seen_after}
 use Rattle.td_feed.specs.Placed.{told_after, last_after, after_gap, at_disk, unless_gap, placed_from, placed, told_by, last_by}
 use Rattle.td_calls.specs.Answers.{Answers}
-use Rattle.td_standing.specs.Standing.{last_epoch, last_request}
+use Rattle.td_store.specs.standing.Standing.{last_epoch, last_request}
 use Rattle.td_keeper.specs.Keeping.{Keeping}
 use Rattle.td_feed.specs.Carried.{new_to, Carries}
 use Rattle.td_feed.proofs.Held.{seen_on}

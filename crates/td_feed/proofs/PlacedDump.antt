@@ -12,7 +12,7 @@ use Rattle.td_plan.specs.Text.{text_lines, words, is_printable}
 use Rattle.td_plan.specs.Inputs.{is_input_of}
 use Rattle.td_journal.specs.declared.submitted.Submitted.{Submitted}
 use Rattle.td_head.specs.Layout.{Sizes}
-use Rattle.td_standing.specs.Standing.{Standing}
+use Rattle.td_store.specs.standing.Standing.{Standing}
 use Rattle.td_console.specs.declared.data_line.DataLine.TheVariants.{PassedOver, Record, Close}
 use Rattle.td_feed.specs.declared.order.Place.{Place}
 use Rattle.td_feed.specs.declared.order.FeedLine.{FeedLine}

@@ -4,7 +4,7 @@ use Rattle.std.specs.Prelude.{None}
 use Rattle.std.proofs.lemmas.List.{take-append-drop, drop_more}
 use Rattle.td_stamp.specs.declared.values.Entry.{Entry}
 use Rattle.td_journal.specs.declared.submitted.Submitted.{Submitted}
-use Rattle.td_standing.specs.Standing.{submission}
+use Rattle.td_store.specs.standing.Standing.{submission}
 use Rattle.td_machine.specs.State.{HallState}
 use Rattle.td_machine.specs.Active.{has_passed}
 use Rattle.td_machine.specs.Steps.{ends, release_by, release_step, cut_at_by}

@@ -21,8 +21,8 @@ use Rattle.td_journal.specs.declared.submitted.Submitted.{Submitted}
 use Rattle.td_journal.specs.Numbers.{greatest, may_come, rise}
 use Rattle.td_journal.specs.Cell.{is_batch}
 use Rattle.td_head.specs.Layout.{Sizes}
-use Rattle.td_standing.specs.Standing.{Standing, submission, last_epoch, last_request}
-use Rattle.td_standing.specs.Told.{inputs_of, floor_of}
+use Rattle.td_store.specs.standing.Standing.{Standing, submission, last_epoch, last_request}
+use Rattle.td_store.specs.standing.Told.{inputs_of, floor_of}
 use Rattle.td_console.specs.Number.{integer_of}
 use Rattle.td_console.specs.declared.data_line.DataLine.TheVariants.{PassedOver, Record, Close}
 use Rattle.td_console.specs.Data.{data_line_of, spelled}

@@ -4,20 +4,20 @@ use Rattle.std.specs.Prelude.{Option, Some, None, Result, Ok, Err, OnOk, IfErr, 
 use Rattle.std.specs.Result.{IsErrAnd}
 use Rattle.std.proofs.lemmas.Result.{on_ok_weaker, on_err_weaker}
 use Rattle.td_calls.specs.Answers.{Answers}
-use Rattle.td_disk.specs.Disk.{DiskState}
+use Rattle.td_disk.specs.Disk.{DiskView, DiskState}
 use Rattle.td_journal.specs.declared.submitted.Submitted.{Submitted}
 use Rattle.td_machine.specs.State.{HallState}
 use Rattle.td_machine.specs.Active.{unpassed}
 use Rattle.td_console.specs.Refusals.{keeper_fault}
-use Rattle.td_standing.specs.declared.error.KeeperError.{KeeperError}
-use Rattle.td_standing.specs.declared.error.KeeperError.TheVariants as error
-use Rattle.td_standing.specs.Standing.{last_epoch}
+use Rattle.td_store.specs.declared.standing.error.KeeperError.{KeeperError}
+use Rattle.td_store.specs.declared.standing.error.KeeperError.TheVariants as error
+use Rattle.td_store.specs.standing.Standing.{last_epoch}
 use Rattle.td_keeper.specs.declared.command.Command.{Command}
 use Rattle.td_keeper.specs.declared.command.Command.TheVariants.{Release, Settle, Collect, Answer}
 use Rattle.td_keeper.specs.declared.command.Reply.{Reply}
 use Rattle.td_keeper.specs.declared.command.Reply.TheVariants.{Submitted as AsSubmitted, SubmittedAs, SubmittedAll, Released, Settled, Collected, Out, CutTaken, Answered, Written, Closed, Refused, RefusedAll}
 use Rattle.td_keeper.specs.Keeping.{Keeping, since_base}
-use Rattle.td_keeper.specs.Calls.{KeepsDevice}
+use Rattle.td_disk.specs.Calls.{KeepsDevice}
 use Rattle.td_keeper.specs.Driven.{ComesOf}
 use Rattle.td_pool.specs.declared.error.PoolError.{PoolError}
 use Rattle.td_console.specs.declared.faults.Fault.{Fault}
@@ -80,32 +80,32 @@ unfolding error_or
 fault_in f d is = ap (error_or d) is
 
 -- THE DISK
-module _ {D : Type 0} {capacity : D → ℕ} {is_lawful : D → Type 0} {failures : D → ℕ} where
+module _ {D : Type 0} {view : D → DiskView} where
   -- nothing was done with it
-  pub disk_same : {T : Type 0} {a b : D} (r : Result T Fault) → b ≡ a → (r ≡ Err (Keeper error.Device) → ⊥) → KeepsDisk capacity is_lawful failures r a b
-  disk_same {a = a} {b = b} r is no_device = subst (λ (d : D). KeepsDisk capacity is_lawful failures r a d) (sym is)
-      (record { size = refl; lawful = (λ l. l, λ l. l); counts = counts_same r (failures a) (failures a) no_device refl })
+  pub disk_same : {T : Type 0} {a b : D} (r : Result T Fault) → b ≡ a → (r ≡ Err (Keeper error.Device) → ⊥) → KeepsDisk view r a b
+  disk_same {a = a} {b = b} r is no_device = subst (λ (d : D). KeepsDisk view r a d) (sym is)
+      (record { size = refl; lawful = (λ l. l, λ l. l); counts = counts_same r (view a).failures (view a).failures no_device refl })
 
   -- one call after another, of which the first did not fail
-  pub disk_then : {S T : Type 0} {x : S} {r : Result T Fault} {a b c : D} → KeepsDisk capacity is_lawful failures (Ok x) a b → KeepsDisk capacity is_lawful failures r b c
-      → KeepsDisk capacity is_lawful failures r a c
+  pub disk_then : {S T : Type 0} {x : S} {r : Result T Fault} {a b c : D} → KeepsDisk view (Ok x) a b → KeepsDisk view r b c
+      → KeepsDisk view r a c
   disk_then {x = x} {r = r} {a = a} {b = b} {c = c} first next = record {
     size = next.size ∙ first.size;
     lawful = (λ l. next.lawful.0 (first.lawful.0 l), λ l. first.lawful.1 (next.lawful.1 l));
-    counts = counts_after r (failures a) (failures b) (failures c) (same_count x (failures a) (failures b) first.counts) next.counts;
+    counts = counts_after r (view a).failures (view b).failures (view c).failures (same_count x (view a).failures (view b).failures first.counts) next.counts;
   }
 
   -- a disk whose keeper was recovered
-  pub disk_recovered : {T : Type 0} {x : T} {a b : D} → KeepsDevice capacity is_lawful failures error.Device (done_by x) a b → KeepsDisk capacity is_lawful failures done a b
+  pub disk_recovered : {T : Type 0} {x : T} {a b : D} → KeepsDevice view error.Device (done_by x) a b → KeepsDisk view done a b
   disk_recovered {x = x} {a = a} {b = b} kept = record {
     size = kept.size;
     lawful = kept.lawful;
-    counts = counts_same done (failures a) (failures b) (ok_no_device tt) (sym (⊎_elim (λ failed. absurd (let never : done_by x ≡ Err error.Device = failed in cc)) (λ same. same) kept.counts.stays));
+    counts = counts_same done (view a).failures (view b).failures (ok_no_device tt) (sym (⊎_elim (λ failed. absurd (let never : done_by x ≡ Err error.Device = failed in cc)) (λ same. same) kept.counts.stays));
   }
 
   -- one that came back
-  pub disk_refused : {S T : Type 0} {a b : D} (e : KeeperError) (f : Fault) → f ≡ keeper_fault e → KeepsDevice capacity is_lawful failures error.Device (refused_by T e) a b
-      → KeepsDisk {T = S} capacity is_lawful failures (Err f) a b
+  pub disk_refused : {S T : Type 0} {a b : D} (e : KeeperError) (f : Fault) → f ≡ keeper_fault e → KeepsDevice view error.Device (refused_by T e) a b
+      → KeepsDisk {T = S} view (Err f) a b
   disk_refused {S = S} {T = T} {a = a} {b = b} e f is kept = record {
     size = kept.size;
     lawful = kept.lawful;
@@ -117,168 +117,168 @@ module _ {D : Type 0} {capacity : D → ℕ} {is_lawful : D → Type 0} {failure
   }
 
   -- the same fault is handed on
-  pub disk_handed : {S T : Type 0} {e : Fault} {a b : D} (r : Result T Fault) → IsErrAnd r (λ f. f ≡ e) → KeepsDisk {T = S} capacity is_lawful failures (Err e) a b → KeepsDisk capacity is_lawful failures r a b
-  disk_handed {S = S} {e = e} {a = a} {b = b} r is kept = record { size = kept.size; lawful = kept.lawful; counts = counts_handed {S = S} r e (failures a) (failures b) is kept.counts }
+  pub disk_handed : {S T : Type 0} {e : Fault} {a b : D} (r : Result T Fault) → IsErrAnd r (λ f. f ≡ e) → KeepsDisk {T = S} view (Err e) a b → KeepsDisk view r a b
+  disk_handed {S = S} {e = e} {a = a} {b = b} r is kept = record { size = kept.size; lawful = kept.lawful; counts = counts_handed {S = S} r e (view a).failures (view b).failures is kept.counts }
 
   -- another answer, that is no refusal
-  pub disk_ok : {S T : Type 0} {x : S} {y : T} {a b : D} → KeepsDisk {T = S} capacity is_lawful failures (Ok x) a b → KeepsDisk {T = T} capacity is_lawful failures (Ok y) a b
+  pub disk_ok : {S T : Type 0} {x : S} {y : T} {a b : D} → KeepsDisk {T = S} view (Ok x) a b → KeepsDisk {T = T} view (Ok y) a b
   disk_ok {x = x} {y = y} {a = a} {b = b} kept = record {
     size = kept.size;
     lawful = kept.lawful;
-    counts = counts_same (as_ok y) (failures a) (failures b) (ok_no_device y) (sym (same_count x (failures a) (failures b) kept.counts));
+    counts = counts_same (as_ok y) (view a).failures (view b).failures (ok_no_device y) (sym (same_count x (view a).failures (view b).failures kept.counts));
   }
 
   -- how a feed ended, where what hindered a task may stand in place of what did not pass
   pub disk_ended : {a b : D} (obeyed r : Result (Unit {0}) Fault) (worked : Result (Unit {0}) PoolError) → OnOk r ((obeyed ≡ Ok tt) × (worked ≡ Ok tt)) → IfErr r (EndedAs obeyed worked)
-      → KeepsDisk capacity is_lawful failures obeyed a b → KeepsDisk capacity is_lawful failures r a b
+      → KeepsDisk view obeyed a b → KeepsDisk view r a b
   disk_ended {a = a} {b = b} obeyed r worked ok err kept =
-      record { size = kept.size; lawful = kept.lawful; counts = ended_counts obeyed r worked (failures a) (failures b) ok err kept.counts }
+      record { size = kept.size; lawful = kept.lawful; counts = ended_counts obeyed r worked (view a).failures (view b).failures ok err kept.counts }
 
 -- a keeper went on twice, with nothing submitted
 pub went_on : {D : Type 0} {answers : Answers} {a b c : Keeping D} → Carries answers a b [] → Carries answers b c [] → Carries answers a c []
 went_on {answers = answers} {a = a} {b = b} {c = c} first next = then_carries answers a b c [] [] first next
 
 -- WHAT IS FED
-module _ {D : Type 0} {is_lawful : D → Type 0} {state : D → DiskState} {failures : D → ℕ} {answers : Answers} {marks : Bool} where
-  pub fed_nothing : {w : Option (List ℕ)} {k : Keeping D} → k.broken ≡ false → Feeds is_lawful state failures answers marks (Ok tt) w w k k []
-  fed_nothing {w = w} {k = k} whole = record { carried = unmoved answers k k refl refl whole; left = tt; said = says_nothing is_lawful state failures answers marks w k }
+module _ {D : Type 0} {view : D → DiskView} {answers : Answers} {marks : Bool} where
+  pub fed_nothing : {w : Option (List ℕ)} {k : Keeping D} → k.broken ≡ false → Feeds view answers marks (Ok tt) w w k k []
+  fed_nothing {w = w} {k = k} whole = record { carried = unmoved answers k k refl refl whole; left = tt; said = says_nothing view answers marks w k }
 
   -- and then nothing more
-  pub fed_then : {d : Unit {0}} {r : Result (Unit {0}) Fault} {u v w : Option (List ℕ)} {a b c : Keeping D} {x : List Submitted} {ns : List Aside} → FeedsNoting is_lawful state failures answers marks (Ok d) u v a b x ns
-      → Feeds is_lawful state failures answers marks r v w b c [] → FeedsNoting is_lawful state failures answers marks r u w a c x ns
+  pub fed_then : {d : Unit {0}} {r : Result (Unit {0}) Fault} {u v w : Option (List ℕ)} {a b c : Keeping D} {x : List Submitted} {ns : List Aside} → FeedsNoting view answers marks (Ok d) u v a b x ns
+      → Feeds view answers marks r v w b c [] → FeedsNoting view answers marks r u w a c x ns
   fed_then {r = r} {u = u} {v = v} {w = w} {a = a} {b = b} {c = c} {x = x} {ns = ns} first next = record {
-    carried = on_ok_weaker r (λ more. carries_then is_lawful state answers a b c x first.carried more) next.carried;
-    left = on_err_weaker r (λ more. leaves_then is_lawful state answers a b c x first.carried more) next.left;
-    said = then_quiet is_lawful state failures answers marks r u v w a b c x ns first.said next.said;
+    carried = on_ok_weaker r (λ more. carries_then view answers a b c x first.carried more) next.carried;
+    left = on_err_weaker r (λ more. leaves_then view answers a b c x first.carried more) next.left;
+    said = then_quiet view answers marks r u v w a b c x ns first.said next.said;
   }
 
   -- nothing, and then these
-  pub fed_after : {d : Unit {0}} {r : Result (Unit {0}) Fault} {u v w : Option (List ℕ)} {a b c : Keeping D} {x : List Submitted} → Feeds is_lawful state failures answers marks (Ok d) u v a b []
-      → Feeds is_lawful state failures answers marks r v w b c x → Feeds is_lawful state failures answers marks r u w a c x
+  pub fed_after : {d : Unit {0}} {r : Result (Unit {0}) Fault} {u v w : Option (List ℕ)} {a b c : Keeping D} {x : List Submitted} → Feeds view answers marks (Ok d) u v a b []
+      → Feeds view answers marks r v w b c x → Feeds view answers marks r u w a c x
   fed_after {r = r} {u = u} {v = v} {w = w} {a = a} {b = b} {c = c} {x = x} first next = record {
-    carried = on_ok_weaker r (λ more. carries_after is_lawful state answers a b c x first.carried more) next.carried;
-    left = on_err_weaker r (λ more. leaves_after is_lawful state answers a b c x first.carried more) next.left;
-    said = then_by is_lawful state failures answers marks r u v w a b c [] x [] [] first.said next.said;
+    carried = on_ok_weaker r (λ more. carries_after view answers a b c x first.carried more) next.carried;
+    left = on_err_weaker r (λ more. leaves_after view answers a b c x first.carried more) next.left;
+    said = then_by view answers marks r u v w a b c [] x [] [] first.said next.said;
   }
 
   -- the same fault is handed on
   pub fed_handed : {e : Fault} {u v : Option (List ℕ)} {a b : Keeping D} {x : List Submitted} {ns : List Aside} (r : Result (Unit {0}) Fault) → IsErrAnd r (λ f. f ≡ e)
-      → FeedsNoting is_lawful state failures answers marks (Err e) u v a b x ns → FeedsNoting is_lawful state failures answers marks r u v a b x ns
+      → FeedsNoting view answers marks (Err e) u v a b x ns → FeedsNoting view answers marks r u v a b x ns
   fed_handed (Ok d) none fed = absurd none
   fed_handed {u = u} {v = v} {a = a} {b = b} {x = x} {ns = ns} (Err f) is fed =
-      subst (λ (g : Fault). FeedsNoting is_lawful state failures answers marks (Err g) u v a b x ns) (sym is) fed
+      subst (λ (g : Fault). FeedsNoting view answers marks (Err g) u v a b x ns) (sym is) fed
 
   -- a command whose reply has no line was obeyed
-  pub fed_quietly : {w : Option (List ℕ)} {a b : Keeping D} (command : Command) (reply : Reply) → is_quiet command ≡ true → Carries answers a b [] → IsObeyed is_lawful state failures answers command reply a b
-      → Feeds is_lawful state failures answers marks (Ok tt) w w a b []
+  pub fed_quietly : {w : Option (List ℕ)} {a b : Keeping D} (command : Command) (reply : Reply) → is_quiet command ≡ true → Carries answers a b [] → IsObeyed view answers command reply a b
+      → Feeds view answers marks (Ok tt) w w a b []
   fed_quietly {w = w} {a = a} {b = b} command reply quiet carried is =
-      record { carried = carried; left = tt; said = quietly is_lawful state failures answers marks w command reply a b quiet is.obeyed is.driven }
+      record { carried = carried; left = tt; said = quietly view answers marks w command reply a b quiet is.obeyed is.driven }
 
   -- nothing was submitted, at whatever answer
-  pub fed_quiet : {u v : Option (List ℕ)} {a b : Keeping D} (r : Result (Unit {0}) Fault) → Carries answers a b [] → SaysBy is_lawful state failures answers marks r u v a b [] []
-      → Feeds is_lawful state failures answers marks r u v a b []
-  fed_quiet {a = a} {b = b} r carried said = record { carried = at_ok r carried; left = at_err r (leaves_none is_lawful state answers a b [] carried); said = said }
+  pub fed_quiet : {u v : Option (List ℕ)} {a b : Keeping D} (r : Result (Unit {0}) Fault) → Carries answers a b [] → SaysBy view answers marks r u v a b [] []
+      → Feeds view answers marks r u v a b []
+  fed_quiet {a = a} {b = b} r carried said = record { carried = at_ok r carried; left = at_err r (leaves_none view answers a b [] carried); said = said }
 
   -- a command was refused
   pub fed_refused : {w : Option (List ℕ)} {a b : Keeping D} {x : List Submitted} (P : Fault → Type 0) (r : Result (Unit {0}) Fault) (command : Command) → IsErrAnd r P → new_to a (batch_in command) ≡ x
-      → IsNotObeyed is_lawful state failures answers command a b → Feeds is_lawful state failures answers marks r w w a b x
+      → IsNotObeyed view answers command a b → Feeds view answers marks r w w a b x
   fed_refused P (Ok d) command none is refused = absurd none
   fed_refused {w = w} {a = a} {b = b} P (Err f) command holds is refused = record {
     carried = tt;
-    left = subst (λ (l : List Submitted). Leaves is_lawful state answers a b l) is refused.left;
-    said = inr (refused_some is_lawful state failures answers marks w command a b refused.refused);
+    left = subst (λ (l : List Submitted). Leaves view answers a b l) is refused.left;
+    said = inr (refused_some view answers marks w command a b refused.refused);
   }
 
   -- a note was to be written
   pub fed_note : {u v : Option (List ℕ)} {k : Keeping D} {P : Type 0} (r : Result (Unit {0}) Fault) (note : Note) → k.broken ≡ false → OnOk r (Appends u v (note_line note))
-      → IfErr r (λ f. (f ≡ Output) ⊎ ((f ≡ Memory) × P)) → (P → v ≡ u) → FeedsNoting is_lawful state failures answers marks r u v k k [] (to_say note ∷ [])
+      → IfErr r (λ f. (f ≡ Output) ⊎ ((f ≡ Memory) × P)) → (P → v ≡ u) → FeedsNoting view answers marks r u v k k [] (to_say note ∷ [])
   fed_note {u = u} {v = v} {k = k} {P = P} r note whole said unsaid same = record {
     carried = at_ok r (unmoved answers k k refl refl whole);
-    left = at_err r (leaves_none is_lawful state answers k k [] (unmoved answers k k refl refl whole));
-    said = noted_by is_lawful state failures answers marks r u v note k P said unsaid same;
+    left = at_err r (leaves_none view answers k k [] (unmoved answers k k refl refl whole));
+    said = noted_by view answers marks r u v note k P said unsaid same;
   }
 
   -- a line that stands for one of these was to be written
-  pub fed_line : {u v : Option (List ℕ)} {k : Keeping D} {P : Type 0} (r : Result (Unit {0}) Fault) (line : List ℕ) (ns : List Aside) → k.broken ≡ false → (Appends u v line → Says is_lawful state failures answers marks u v k k [] ns)
-      → OnOk r (Appends u v line) → IfErr r (λ f. (f ≡ Output) ⊎ ((f ≡ Memory) × P)) → (P → v ≡ u) → FeedsNoting is_lawful state failures answers marks r u v k k [] ns
+  pub fed_line : {u v : Option (List ℕ)} {k : Keeping D} {P : Type 0} (r : Result (Unit {0}) Fault) (line : List ℕ) (ns : List Aside) → k.broken ≡ false → (Appends u v line → Says view answers marks u v k k [] ns)
+      → OnOk r (Appends u v line) → IfErr r (λ f. (f ≡ Output) ⊎ ((f ≡ Memory) × P)) → (P → v ≡ u) → FeedsNoting view answers marks r u v k k [] ns
   fed_line {u = u} {v = v} {k = k} {P = P} r line ns whole says said unsaid same = record {
     carried = at_ok r (unmoved answers k k refl refl whole);
-    left = at_err r (leaves_none is_lawful state answers k k [] (unmoved answers k k refl refl whole));
-    said = line_by is_lawful state failures answers marks r u v line ns k P says said unsaid same;
+    left = at_err r (leaves_none view answers k k [] (unmoved answers k k refl refl whole));
+    said = line_by view answers marks r u v line ns k P says said unsaid same;
   }
 
   -- a question was answered, and the answer was to be written
-  pub fed_answer : {u v : Option (List ℕ)} {a b : Keeping D} {P : Type 0} (r : Result (Unit {0}) Fault) (vertex : ℕ) (wanted : Of) (reply : Reply) → IsObeyed is_lawful state failures answers (Answer vertex wanted) reply a b
+  pub fed_answer : {u v : Option (List ℕ)} {a b : Keeping D} {P : Type 0} (r : Result (Unit {0}) Fault) (vertex : ℕ) (wanted : Of) (reply : Reply) → IsObeyed view answers (Answer vertex wanted) reply a b
       → Carries answers a b [] → OnOk r (Appends u v (answer_text vertex wanted reply)) → IfErr r (λ f. (f ≡ Output) ⊎ ((f ≡ Memory) × P)) → (P → v ≡ u)
-      → FeedsNoting is_lawful state failures answers marks r u v a b [] (to_answer vertex wanted ∷ [])
+      → FeedsNoting view answers marks r u v a b [] (to_answer vertex wanted ∷ [])
   fed_answer {u = u} {v = v} {a = a} {b = b} {P = P} r vertex wanted reply is carried said unsaid same = record {
     carried = at_ok r carried;
-    left = at_err r (leaves_none is_lawful state answers a b [] carried);
-    said = answered_by is_lawful state failures answers marks r u v vertex wanted reply a b P is.driven said unsaid same;
+    left = at_err r (leaves_none view answers a b [] carried);
+    said = answered_by view answers marks r u v vertex wanted reply a b P is.driven said unsaid same;
   }
 
   -- or it was not
   pub fed_unanswered : {w : Option (List ℕ)} {a b : Keeping D} {ns : List Aside} (P : Fault → Type 0) (r : Result (Unit {0}) Fault) (command : Command) → IsErrAnd r P → Carries answers a b []
-      → Refuses is_lawful state failures answers command a b → FeedsNoting is_lawful state failures answers marks r w w a b [] ns
+      → Refuses view answers command a b → FeedsNoting view answers marks r w w a b [] ns
   fed_unanswered P (Ok d) command none carried refused = absurd none
   fed_unanswered {w = w} {a = a} {b = b} {ns = ns} P (Err f) command holds carried refused = record {
     carried = tt;
-    left = leaves_none is_lawful state answers a b [] carried;
-    said = inr (unanswered is_lawful state failures answers marks w command a b ns refused);
+    left = leaves_none view answers a b [] carried;
+    said = inr (unanswered view answers marks w command a b ns refused);
   }
 
   -- it was to be written that the journal is full
   pub fed_full : {u v : Option (List ℕ)} {k : Keeping D} {P : Type 0} (r : Result (Unit {0}) Fault) (e : ℕ) → k.broken ≡ false → OnOk r (Appends u v (full_line e))
-      → IfErr r (λ f. (f ≡ Output) ⊎ ((f ≡ Memory) × P)) → (P → v ≡ u) → Feeds is_lawful state failures answers marks r u v k k []
+      → IfErr r (λ f. (f ≡ Output) ⊎ ((f ≡ Memory) × P)) → (P → v ≡ u) → Feeds view answers marks r u v k k []
   fed_full {u = u} {v = v} {k = k} {P = P} r e whole said unsaid same = record {
     carried = at_ok r (unmoved answers k k refl refl whole);
-    left = at_err r (leaves_none is_lawful state answers k k [] (unmoved answers k k refl refl whole));
-    said = full_by is_lawful state failures answers marks r u v e k P said unsaid same;
+    left = at_err r (leaves_none view answers k k [] (unmoved answers k k refl refl whole));
+    said = full_by view answers marks r u v e k P said unsaid same;
   }
 
   -- nothing was done
-  pub unfed : {w : Option (List ℕ)} {k : Keeping D} {x : List Submitted} {ns : List Aside} (f : Fault) → k.broken ≡ false → FeedsNoting is_lawful state failures answers marks (Err f) w w k k x ns
+  pub unfed : {w : Option (List ℕ)} {k : Keeping D} {x : List Submitted} {ns : List Aside} (f : Fault) → k.broken ≡ false → FeedsNoting view answers marks (Err f) w w k k x ns
   unfed {w = w} {k = k} {x = x} {ns = ns} f whole = record {
     carried = tt;
-    left = leaves_none is_lawful state answers k k x (unmoved answers k k refl refl whole);
-    said = inr (unsaid_none is_lawful state failures answers marks w k ns);
+    left = leaves_none view answers k k x (unmoved answers k k refl refl whole);
+    said = inr (unsaid_none view answers marks w k ns);
   }
 
   -- what is left at any answer
-  pub left_of : {u v : Option (List ℕ)} {a b : Keeping D} {x : List Submitted} {ns : List Aside} (r : Result (Unit {0}) Fault) → FeedsNoting is_lawful state failures answers marks r u v a b x ns → Leaves is_lawful state answers a b x
-  left_of {a = a} {b = b} {x = x} (Ok d) fed = leaves_all is_lawful state answers a b x fed.carried
+  pub left_of : {u v : Option (List ℕ)} {a b : Keeping D} {x : List Submitted} {ns : List Aside} (r : Result (Unit {0}) Fault) → FeedsNoting view answers marks r u v a b x ns → Leaves view answers a b x
+  left_of {a = a} {b = b} {x = x} (Ok d) fed = leaves_all view answers a b x fed.carried
   left_of (Err f) fed = fed.left
 
 -- WHAT IS FED, with copies
-module _ {D E : Type 0} {is_lawful : D → Type 0} {state : D → DiskState} {failures : D → ℕ} {answers : Answers} {marks : Bool} {is_new_lawful : E → Type 0} {new_state : E → DiskState} where
+module _ {D E : Type 0} {view : D → DiskView} {answers : Answers} {marks : Bool} {new_view : E → DiskView} where
   -- nothing that asks for a copy
   pub fed_uncopied : {r : Result (Unit {0}) Fault} {u v : Option (List ℕ)} {kept : Option (List (Copied E))} {a b : Keeping D} {x : List Submitted} (ns : List Aside) → ComeOf ns ns → copied_in ns ≡ []
-      → FeedsNoting is_lawful state failures answers marks r u v a b x ns → FeedsCopying is_lawful state failures answers marks is_new_lawful new_state r u v kept kept a b x ns
+      → FeedsNoting view answers marks r u v a b x ns → FeedsCopying view answers marks new_view r u v kept kept a b x ns
   fed_uncopied {kept = kept} {a = a} {x = x} ns came none fed = record {
     done = ns;
     came = came;
     fed = fed;
-    copied = subst (λ (said : List (List ℕ × ℕ)). MakesCopies is_lawful is_new_lawful new_state answers said kept kept a x) (sym none) (none_made is_lawful is_new_lawful new_state answers kept a x);
+    copied = subst (λ (said : List (List ℕ × ℕ)). MakesCopies view new_view answers said kept kept a x) (sym none) (none_made view new_view answers kept a x);
   }
 
   pub none_fed : {w : Option (List ℕ)} {kept : Option (List (Copied E))} {k : Keeping D} {s : Script} (f : Fault) → k.broken ≡ false
-      → FeedsScript is_lawful state failures answers marks is_new_lawful new_state (Err f) w w kept kept k k s
+      → FeedsScript view answers marks new_view (Err f) w w kept kept k k s
   none_fed {s = s} f whole = record { sound = tt; fed = fed_uncopied (notes_in s.orders) (as_they_ask s.orders) (none_yet s.orders) (unfed f whole) }
 
   -- and then nothing more
   pub copying_then : {d : Unit {0}} {r : Result (Unit {0}) Fault} {u v w : Option (List ℕ)} {had has : Option (List (Copied E))} {a b c : Keeping D} {x : List Submitted} {ns : List Aside}
-      → FeedsCopying is_lawful state failures answers marks is_new_lawful new_state (Ok d) u v had has a b x ns → Feeds is_lawful state failures answers marks r v w b c []
-      → FeedsCopying is_lawful state failures answers marks is_new_lawful new_state r u w had has a c x ns
+      → FeedsCopying view answers marks new_view (Ok d) u v had has a b x ns → Feeds view answers marks r v w b c []
+      → FeedsCopying view answers marks new_view r u w had has a c x ns
   copying_then first next = record { done = first.done; came = first.came; fed = fed_then first.fed next; copied = first.copied }
 
   -- the same fault is handed on
   pub copying_handed : {e : Fault} {u v : Option (List ℕ)} {had has : Option (List (Copied E))} {a b : Keeping D} {x : List Submitted} {ns : List Aside} (r : Result (Unit {0}) Fault) → IsErrAnd r (λ f. f ≡ e)
-      → FeedsCopying is_lawful state failures answers marks is_new_lawful new_state (Err e) u v had has a b x ns → FeedsCopying is_lawful state failures answers marks is_new_lawful new_state r u v had has a b x ns
+      → FeedsCopying view answers marks new_view (Err e) u v had has a b x ns → FeedsCopying view answers marks new_view r u v had has a b x ns
   copying_handed r is fed = record { done = fed.done; came = fed.came; fed = fed_handed r is fed.fed; copied = fed.copied }
 
   -- how a feed of a script ended
   pub fed_ended : {u v : Option (List ℕ)} {had has : Option (List (Copied E))} {a b : Keeping D} {s : Script} (obeyed r : Result (Unit {0}) Fault) (worked : Result (Unit {0}) PoolError) → OnOk r ((obeyed ≡ Ok tt) × (worked ≡ Ok tt)) → IfErr r (EndedAs obeyed worked)
-      → FeedsScript is_lawful state failures answers marks is_new_lawful new_state obeyed u v had has a b s → FeedsScript is_lawful state failures answers marks is_new_lawful new_state r u v had has a b s
+      → FeedsScript view answers marks new_view obeyed u v had has a b s → FeedsScript view answers marks new_view r u v had has a b s
   fed_ended {u = u} {v = v} {a = a} {b = b} {s = s} obeyed r worked ok err fed =
       let x : List Submitted = new_to a (submissions s.orders) in
       let same = ok_only (obeyed ≡ Ok tt) (worked ≡ Ok tt) r ok in
@@ -289,8 +289,8 @@ module _ {D E : Type 0} {is_lawful : D → Type 0} {state : D → DiskState} {fa
           came = fed.fed.came;
           fed = record {
             carried = ended_ok (Carries answers a b x) tt obeyed r same noting.carried;
-            left = ended_err (Carries answers a b x) (Leaves is_lawful state answers a b x) obeyed r (λ whole. leaves_all is_lawful state answers a b x whole) noting.carried noting.left;
-            said = ended_says is_lawful state failures answers marks u v a b x fed.fed.done obeyed r worked ok err noting.said;
+            left = ended_err (Carries answers a b x) (Leaves view answers a b x) obeyed r (λ whole. leaves_all view answers a b x whole) noting.carried noting.left;
+            said = ended_says view answers marks u v a b x fed.fed.done obeyed r worked ok err noting.said;
           };
           copied = fed.fed.copied;
         };
@@ -298,17 +298,17 @@ module _ {D E : Type 0} {is_lawful : D → Type 0} {state : D → DiskState} {fa
 
   -- a script was refused
   pub err_fed : {u v : Option (List ℕ)} {had has : Option (List (Copied E))} {a b : Keeping D} {s : Script} (P : Fault → Type 0) (r : Result (Unit {0}) Fault) (done : List Aside) → IsErrAnd r P
-      → ComeOf (notes_in s.orders) done → Leaves is_lawful state answers a b (new_to a (submissions s.orders))
-      → SaysBy is_lawful state failures answers marks r u v a b (new_to a (submissions s.orders)) done
-      → MakesCopies is_lawful is_new_lawful new_state answers (copied_in done) had has a (new_to a (submissions s.orders))
-      → FeedsScript is_lawful state failures answers marks is_new_lawful new_state r u v had has a b s
+      → ComeOf (notes_in s.orders) done → Leaves view answers a b (new_to a (submissions s.orders))
+      → SaysBy view answers marks r u v a b (new_to a (submissions s.orders)) done
+      → MakesCopies view new_view answers (copied_in done) had has a (new_to a (submissions s.orders))
+      → FeedsScript view answers marks new_view r u v had has a b s
   err_fed P (Ok d) done none came left said copied = absurd none
   err_fed P (Err f) done holds came left said copied =
       record { sound = tt; fed = record { done = done; came = came; fed = record { carried = tt; left = left; said = said }; copied = copied } }
 
-module _ {D : Type 0} {is_lawful : D → Type 0} {state : D → DiskState} {failures : D → ℕ} {answers : Answers} where
+module _ {D : Type 0} {view : D → DiskView} {answers : Answers} where
   -- a hall of its own was released into: it has all batches
-  pub all_released : {a b : Keeping D} (r : Reply) (S T : HallState) → IsObeyed is_lawful state failures answers Release r a b → ComesOf Release r a S b T → T.batches ≡ since_base b
+  pub all_released : {a b : Keeping D} (r : Reply) (S T : HallState) → IsObeyed view answers Release r a b → ComesOf Release r a S b T → T.batches ≡ since_base b
   all_released (Refused e back) S T released comes = absurd (let no : true ≡ false = released.done in cc)
   all_released (RefusedAll e back) S T released comes = absurd released.obeyed
   all_released (AsSubmitted n) S T released comes = absurd released.obeyed
@@ -324,7 +324,7 @@ module _ {D : Type 0} {is_lawful : D → Type 0} {state : D → DiskState} {fail
   all_released Closed S T released comes = absurd released.obeyed
 
   -- it was settled, and collected: all is
-  all_collected : {a b : Keeping D} (r : Reply) (S T : HallState) → S.batches ≡ since_base a → unpassed S ≡ None → IsObeyed is_lawful state failures answers Collect r a b → ComesOf Collect r a S b T
+  all_collected : {a b : Keeping D} (r : Reply) (S T : HallState) → S.batches ≡ since_base a → unpassed S ≡ None → IsObeyed view answers Collect r a b → ComesOf Collect r a S b T
       → b.collected ≡ last_epoch b.standing
   all_collected (Refused e back) S T all passed collected comes = absurd (let no : true ≡ false = collected.done in cc)
   all_collected (RefusedAll e back) S T all passed collected comes = absurd collected.obeyed
@@ -340,8 +340,8 @@ module _ {D : Type 0} {is_lawful : D → Type 0} {state : D → DiskState} {fail
   all_collected (Answered m ys) S T all passed collected comes = absurd collected.obeyed
   all_collected Closed S T all passed collected comes = absurd collected.obeyed
 
-  pub to_the_end : {a b c : Keeping D} (r s : Reply) (S T U : HallState) → S.batches ≡ since_base a → IsObeyed is_lawful state failures answers Settle r a b → ComesOf Settle r a S b T
-      → IsObeyed is_lawful state failures answers Collect s b c → ComesOf Collect s b T c U → c.collected ≡ last_epoch c.standing
+  pub to_the_end : {a b c : Keeping D} (r s : Reply) (S T U : HallState) → S.batches ≡ since_base a → IsObeyed view answers Settle r a b → ComesOf Settle r a S b T
+      → IsObeyed view answers Collect s b c → ComesOf Collect s b T c U → c.collected ≡ last_epoch c.standing
   to_the_end (Refused e back) s S T U all settled passed collected comes = absurd (let no : true ≡ false = settled.done in cc)
   to_the_end (RefusedAll e back) s S T U all settled passed collected comes = absurd settled.obeyed
   to_the_end (AsSubmitted n) s S T U all settled passed collected comes = absurd settled.obeyed

@@ -6,7 +6,7 @@ use Rattle.td_journal.specs.declared.submitted.Submitted.{Submitted}
 use Rattle.td_journal.specs.declared.submitted.Counts.{Counts}
 use Rattle.td_journal.specs.Counts.{counts_of, greatest_counted}
 use Rattle.td_journal.specs.Numbers.{greatest}
-use Rattle.td_standing.specs.Standing.{standing_from}
+use Rattle.td_store.specs.standing.Standing.{standing_from}
 use Rattle.td_feed.specs.Shown.{kept_line, told_line, last_line, head_lines, state_lines, epoch_line, epoch_lines, shown, counted_head, count_lines, counted_lines}
 
 same_greatest : (q : ℕ) (w : List Submitted) → greatest_counted q (map counts_of w) ≡ greatest q w

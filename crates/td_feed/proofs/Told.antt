@@ -3,12 +3,12 @@ use Rattle.std.proofs.Common.{◌≡◌, ◌⊎◌, ⊎_elim, inr, ℕ, ◌+◌,
 use Rattle.std.specs.Prelude.{Option, Some, None, if◌then◌else◌, Result, Ok, Err, IfOk, IfErr, OnErr}
 use Rattle.td_stamp.specs.declared.values.Entry.{Entry}
 use Rattle.td_calls.specs.Answers.{Answers}
-use Rattle.td_disk.specs.Disk.{DiskState}
+use Rattle.td_disk.specs.Disk.{DiskView, DiskState}
 use Rattle.td_journal.specs.declared.submitted.Submitted.{Submitted as AnySubmitted}
-use Rattle.td_standing.specs.Standing.{last_epoch, last_request, submission}
-use Rattle.td_standing.specs.Advanced.{SinceAdvance}
-use Rattle.td_standing.specs.declared.error.KeeperError.{KeeperError}
-use Rattle.td_standing.specs.declared.error.KeeperError.TheVariants as error
+use Rattle.td_store.specs.standing.Standing.{last_epoch, last_request, submission}
+use Rattle.td_store.specs.standing.Advanced.{SinceAdvance}
+use Rattle.td_store.specs.declared.standing.error.KeeperError.{KeeperError}
+use Rattle.td_store.specs.declared.standing.error.KeeperError.TheVariants as error
 use Rattle.td_keeper.specs.declared.group.GroupError.{GroupError}
 use Rattle.td_keeper.specs.declared.group.GroupError.TheVariants.{Repeated, Keeper}
 use Rattle.td_keeper.specs.declared.command.Command.{Command}
@@ -18,7 +18,7 @@ use Rattle.td_keeper.specs.declared.command.Reply.TheVariants.{Submitted, Submit
 use Rattle.td_keeper.specs.declared.receipt.Receipt.{Receipt}
 use Rattle.td_keeper.specs.declared.receipt.Receipt.TheVariants.{New, Already}
 use Rattle.td_keeper.specs.Received.{IsReceived, received_in}
-use Rattle.td_group.specs.Groups.{may_follow}
+use Rattle.td_store.specs.group.Groups.{may_follow}
 use Rattle.td_keeper.specs.Refused.{is_new, has_number, all_accepted, all_few}
 use Rattle.td_keeper.specs.Keeping.{Keeping, IsKeeping}
 use Rattle.td_keeper.specs.Driven.{submitted_in, may_write, Obeys, Rests}
@@ -72,18 +72,18 @@ err_of (Ok r) reply P F is holds = tt
 err_of (Err e) reply P F is holds = holds is.0
 
 -- the law, as it is handed in: a command that does not write leaves a keeper's disk, and what it stands for
-abbrev pub Others-rest : {D : Type 0} → (D → Type 0) → (D → DiskState) → (D → ℕ) → Answers → Type 0
-Others-rest {D} is_lawful state failures answers = (command : Command) (reply : Reply) (old new : Keeping D) → may_write command ≡ false
-    → Obeys is_lawful state failures answers command reply old new → Rests old new
+abbrev pub Others-rest : {D : Type 0} → (D → DiskView) → Answers → Type 0
+Others-rest {D} view answers = (command : Command) (reply : Reply) (old new : Keeping D) → may_write command ≡ false
+    → Obeys view answers command reply old new → Rests old new
 
-module _ {D : Type 0} (is_lawful : D → Type 0) (state : D → DiskState) (failures : D → ℕ) (answers : Answers) where
+module _ {D : Type 0} (view : D → DiskView) (answers : Answers) where
   -- a receipt, and what is new
   received_is : (request : ℕ) (batch : List Entry) (receipt : Receipt) (old new : Keeping D) → IsReceived request batch receipt old new → received_in request batch receipt ≡ new_to old (submission request batch ∷ [])
   received_is request batch (New epoch) old new r = sym (new_one (last_request old.standing) (submission request batch) r.0)
   received_is request batch (Already last) old new r = sym (old_one (last_request old.standing) (submission request batch) r.0)
 
   -- what a command that was not refused submitted
-  pub submitted_is : (c : Command) (r : Reply) (old new : Keeping D) → Obeys is_lawful state failures answers c r old new → is_refused r ≡ false → IsRising old c → submitted_in c r ≡ new_to old (batch_in c)
+  pub submitted_is : (c : Command) (r : Reply) (old new : Keeping D) → Obeys view answers c r old new → is_refused r ≡ false → IsRising old c → submitted_in c r ≡ new_to old (batch_in c)
   submitted_is (Submit batch) (Submitted n) old new obeys done rises = refl
   submitted_is (Submit batch) (Refused e b) old new obeys done rises = absurd (let no : true ≡ false = done in cc)
   submitted_is (SubmitAll group) (SubmittedAll n m) old new obeys done rises = sym (all_new (last_request old.standing) group rises)
@@ -137,7 +137,7 @@ module _ {D : Type 0} (is_lawful : D → Type 0) (state : D → DiskState) (fail
   rests_carry old new rests whole = unmoved answers old new rests.plan rests.standing (rests.broken ∙ whole)
 
   -- A COMMAND THAT WRITES NOTHING, whatever its reply is
-  pub rest : Others-rest is_lawful state failures answers → (c : Command) (r : Reply) (old new : Keeping D) → Obeys is_lawful state failures answers c r old new → old.broken ≡ false → is_resting c ≡ true → Carries answers old new []
+  pub rest : Others-rest view answers → (c : Command) (r : Reply) (old new : Keeping D) → Obeys view answers c r old new → old.broken ≡ false → is_resting c ≡ true → Carries answers old new []
   rest others (Submit batch) r old new obeys whole is = absurd (let no : false ≡ true = is in cc)
   rest others (SubmitAs request batch) r old new obeys whole is = absurd (let no : false ≡ true = is in cc)
   rest others (SubmitAll group) r old new obeys whole is = absurd (let no : false ≡ true = is in cc)
@@ -156,7 +156,7 @@ module _ {D : Type 0} (is_lawful : D → Type 0) (state : D → DiskState) (fail
   carry_received request batch (Already last) old new r whole = unmoved answers old new (ap (λ (k : Keeping D). k.plan) r.2) (ap (λ (k : Keeping D). k.standing) r.2) (ap (λ (k : Keeping D). k.broken) r.2 ∙ whole)
 
   -- A COMMAND THAT WAS NOT REFUSED: the keeper goes on with what it submitted
-  pub carry : Others-rest is_lawful state failures answers → Stands-on answers → Cuts-on answers → (c : Command) (r : Reply) (old new : Keeping D) → IsKeeping old answers → Obeys is_lawful state failures answers c r old new
+  pub carry : Others-rest view answers → Stands-on answers → Cuts-on answers → (c : Command) (r : Reply) (old new : Keeping D) → IsKeeping old answers → Obeys view answers c r old new
       → old.broken ≡ false → is_refused r ≡ false → Carries answers old new (submitted_in c r)
   carry others stands_on cuts_on (Submit batch) (Submitted n) old new kept obeys whole done = submitted answers old new new.device (submission 0 batch ∷ []) whole obeys.0.submitted
   carry others stands_on cuts_on (Submit batch) (Refused e b) old new kept obeys whole done = absurd (let no : true ≡ false = done in cc)
@@ -236,21 +236,21 @@ module _ {D : Type 0} (is_lawful : D → Type 0) (state : D → DiskState) (fail
   carry others stands_on cuts_on (CloseFree most) (Answered m ys) old new kept obeys whole done = absurd obeys.0
   carry others stands_on cuts_on (CloseFree most) (Written w) old new kept obeys whole done = absurd obeys.0
 
-module _ {D : Type 0} (is_lawful : D → Type 0) (state : D → DiskState) (failures : D → ℕ) (answers : Answers) (stands_on : Stands-on answers) (old new : Keeping D) (whole : old.broken ≡ false)
-    (before : is_lawful new.device → is_lawful old.device)
-    (counts : is_lawful new.device → (c : List ℕ) → (state new.device).images c → (state new.device).since (state old.device).moment c) where
-  none_left : (more : List AnySubmitted) (other : Keeping D) → new ≡ other → other.plan ≡ old.plan → other.standing ≡ old.standing → other.broken ≡ false → Leaves is_lawful state answers old new more
+module _ {D : Type 0} (view : D → DiskView) (answers : Answers) (stands_on : Stands-on answers) (old new : Keeping D) (whole : old.broken ≡ false)
+    (before : (view new.device).lawful → (view old.device).lawful)
+    (counts : (view new.device).lawful → (c : List ℕ) → (view new.device).state.images c → (view new.device).state.since (view old.device).state.moment c) where
+  none_left : (more : List AnySubmitted) (other : Keeping D) → new ≡ other → other.plan ≡ old.plan → other.standing ≡ old.standing → other.broken ≡ false → Leaves view answers old new more
   none_left more other is plan standing same =
-      leaves_none is_lawful state answers old new more
+      leaves_none view answers old new more
       (unmoved answers old new (ap (λ (k : Keeping D). k.plan) is ∙ plan) (ap (λ (k : Keeping D). k.standing) is ∙ standing) (ap (λ (k : Keeping D). k.broken) is ∙ same))
 
-  rests_left : (more : List AnySubmitted) → Rests old new → Leaves is_lawful state answers old new more
-  rests_left more rests = leaves_none is_lawful state answers old new more (rests_carry is_lawful state failures answers old new rests whole)
+  rests_left : (more : List AnySubmitted) → Rests old new → Leaves view answers old new more
+  rests_left more rests = leaves_none view answers old new more (rests_carry view answers old new rests whole)
 
   -- A COMMAND THAT WAS REFUSED: nothing was submitted; or the device failed, and its batch stands on the disk or not
-  pub refused : Others-rest is_lawful state failures answers → (c : Command) (e : KeeperError) (b : _) → Obeys is_lawful state failures answers c (Refused e b) old new
-      → (is_lawful old.device → SinceAdvance answers old.plan old.standing (submitted_in c (Refused e b)) (last_epoch old.standing) (state old.device).moment (state new.device))
-      → Leaves is_lawful state answers old new (new_to old (batch_in c))
+  pub refused : Others-rest view answers → (c : Command) (e : KeeperError) (b : _) → Obeys view answers c (Refused e b) old new
+      → ((view old.device).lawful → SinceAdvance answers old.plan old.standing (submitted_in c (Refused e b)) (last_epoch old.standing) (view old.device).state.moment (view new.device).state)
+      → Leaves view answers old new (new_to old (batch_in c))
   refused others (Submit batch) e b obeys since =
       ⊎_elim
       (λ is. none_left (submission 0 batch ∷ []) old is refl refl whole)
@@ -260,9 +260,9 @@ module _ {D : Type 0} (is_lawful : D → Type 0) (state : D → DiskState) (fail
         count = 0;
         group = 1;
         few = omega arith;
-        left = inr (stopped_one is_lawful state answers stands_on old new before counts (submission 0 batch)
+        left = inr (stopped_one view answers stands_on old new before counts (submission 0 batch)
             (λ lawful.
-            subst (λ (f : KeeperError). SinceAdvance answers old.plan old.standing (submitted_in (Submit batch) (Refused f b)) (last_epoch old.standing) (state old.device).moment (state new.device)) device.0
+            subst (λ (f : KeeperError). SinceAdvance answers old.plan old.standing (submitted_in (Submit batch) (Refused f b)) (last_epoch old.standing) (view old.device).state.moment (view new.device).state) device.0
             (since lawful)));
       })
       other)
@@ -285,12 +285,12 @@ module _ {D : Type 0} (is_lawful : D → Type 0) (state : D → DiskState) (fail
       never : e ≡ error.Device → (e ≡ error.Broken) ⊎ (e ≡ error.OldVersion) → ⊥
       never device why = ⊎_elim (λ broken. (let no : error.Device ≡ error.Broken = sym device ∙ broken in absurd cc)) (λ version. (let no : error.Device ≡ error.OldVersion = sym device ∙ version in absurd cc)) why
 
-      failed : e ≡ error.Device → (t : Bool) → is_new old.standing request ≡ t → Stopped is_lawful state answers old new more 0 1
+      failed : e ≡ error.Device → (t : Bool) → is_new old.standing request ≡ t → Stopped view answers old new more 0 1
       failed device true is =
-          subst (λ (l : List AnySubmitted). Stopped is_lawful state answers old new l 0 1) (sym (new_one (last_request old.standing) s is))
-          (stopped_one is_lawful state answers stands_on old new before counts s
+          subst (λ (l : List AnySubmitted). Stopped view answers old new l 0 1) (sym (new_one (last_request old.standing) s is))
+          (stopped_one view answers stands_on old new before counts s
           (λ lawful.
-          subst (λ (f : KeeperError). SinceAdvance answers old.plan old.standing (submitted_in (SubmitAs request batch) (Refused f b)) (last_epoch old.standing) (state old.device).moment (state new.device)) device
+          subst (λ (f : KeeperError). SinceAdvance answers old.plan old.standing (submitted_in (SubmitAs request batch) (Refused f b)) (last_epoch old.standing) (view old.device).state.moment (view new.device).state) device
           (since lawful)))
       failed device false is = absurd (never device (obeys.0.repeated is))
   refused others (SubmitAll group) e b obeys since = absurd obeys.0
@@ -309,7 +309,7 @@ module _ {D : Type 0} (is_lawful : D → Type 0) (state : D → DiskState) (fail
         count = 0;
         group = 0;
         few = omega arith;
-        left = inr (stopped_none is_lawful state answers stands_on old new before counts since);
+        left = inr (stopped_none view answers stands_on old new before counts since);
       })
       (λ is. none_left [] old is refl refl whole)
       other)
@@ -321,13 +321,13 @@ module _ {D : Type 0} (is_lawful : D → Type 0) (state : D → DiskState) (fail
         count = 0;
         group = 0;
         few = omega arith;
-        left = inr (stopped_none is_lawful state answers stands_on old new before counts since);
+        left = inr (stopped_none view answers stands_on old new before counts since);
       })
       obeys.0.unchanged
 
   -- a group stands on the disk whole, or not at all
-  none_of_group : (c : Command) (e : GroupError) (b : List AnySubmitted) → Obeys is_lawful state failures answers c (RefusedAll e b) old new → IsRising old c
-      → Leaves is_lawful state answers old new (new_to old (batch_in c))
+  none_of_group : (c : Command) (e : GroupError) (b : List AnySubmitted) → Obeys view answers c (RefusedAll e b) old new → IsRising old c
+      → Leaves view answers old new (new_to old (batch_in c))
   none_of_group (SubmitAll group) e b obeys rises =
       ⊎_elim
       (λ is. none_left more old is refl refl whole)
@@ -337,8 +337,8 @@ module _ {D : Type 0} (is_lawful : D → Type 0) (state : D → DiskState) (fail
         count = 0;
         group = length group;
         few = omega arith;
-        left = inr (subst (λ (l : List AnySubmitted). Stopped is_lawful state answers old new l 0 (length group)) (sym (all_new (last_request old.standing) group rises))
-            (stopped_all is_lawful state answers old new before counts group (λ lawful. obeys.0.images lawful whole)));
+        left = inr (subst (λ (l : List AnySubmitted). Stopped view answers old new l 0 (length group)) (sym (all_new (last_request old.standing) group rises))
+            (stopped_all view answers old new before counts group (λ lawful. obeys.0.images lawful whole)));
       })
       other)
       obeys.0.unchanged
@@ -358,9 +358,9 @@ module _ {D : Type 0} (is_lawful : D → Type 0) (state : D → DiskState) (fail
   none_of_group (CloseFree most) e b obeys rises = absurd obeys.0
 
   -- ANY REFUSAL
-  pub refused_any : Others-rest is_lawful state failures answers → (c : Command) (r : Reply) → is_refused r ≡ true → Obeys is_lawful state failures answers c r old new → IsRising old c
-      → (is_lawful old.device → SinceAdvance answers old.plan old.standing (submitted_in c r) (last_epoch old.standing) (state old.device).moment (state new.device))
-      → Leaves is_lawful state answers old new (new_to old (batch_in c))
+  pub refused_any : Others-rest view answers → (c : Command) (r : Reply) → is_refused r ≡ true → Obeys view answers c r old new → IsRising old c
+      → ((view old.device).lawful → SinceAdvance answers old.plan old.standing (submitted_in c r) (last_epoch old.standing) (view old.device).state.moment (view new.device).state)
+      → Leaves view answers old new (new_to old (batch_in c))
   refused_any others c (Refused e b) is obeys rises since = refused others c e b obeys since
   refused_any others c (RefusedAll e b) is obeys rises since = none_of_group c e b obeys rises
   refused_any others c (Submitted n) is obeys rises since = absurd (let no : false ≡ true = is in cc)
@@ -375,8 +375,8 @@ module _ {D : Type 0} (is_lawful : D → Type 0) (state : D → DiskState) (fail
   refused_any others c (Answered m ys) is obeys rises since = absurd (let no : false ≡ true = is in cc)
   refused_any others c Closed is obeys rises since = absurd (let no : false ≡ true = is in cc)
 
-module _ {D : Type 0} (is_lawful : D → Type 0) (state : D → DiskState) (failures : D → ℕ) (answers : Answers) where
-  repeats : (c : Command) (b : List AnySubmitted) (old new : Keeping D) → Obeys is_lawful state failures answers c (RefusedAll Repeated b) old new → IsRising old c → ⊥
+module _ {D : Type 0} (view : D → DiskView) (answers : Answers) where
+  repeats : (c : Command) (b : List AnySubmitted) (old new : Keeping D) → Obeys view answers c (RefusedAll Repeated b) old new → IsRising old c → ⊥
   repeats (SubmitAll group) b old new obeys rises =
       ⊎_elim
       (λ refused. never old.broken (has_number group && nat_lt old.head.version 2) (may_follow (Some (last_request old.standing)) group) (not (all_accepted old.plan group)) (not (all_few old.head.shape.m group))
@@ -396,7 +396,7 @@ module _ {D : Type 0} (is_lawful : D → Type 0) (state : D → DiskState) (fail
   repeats (CloseFree most) b old new obeys rises = obeys.0
 
   -- A GROUP WHOSE NUMBERS RISE is not refused as one that repeats some
-  pub not_repeated : (c : Command) (r : Reply) (old new : Keeping D) → Obeys is_lawful state failures answers c r old new → IsRising old c → is_repeated r ≡ false
+  pub not_repeated : (c : Command) (r : Reply) (old new : Keeping D) → Obeys view answers c r old new → IsRising old c → is_repeated r ≡ false
   not_repeated c (RefusedAll Repeated b) old new obeys rises = absurd (repeats c b old new obeys rises)
   not_repeated c (RefusedAll (Keeper e) b) old new obeys rises = refl
   not_repeated c (Refused e b) old new obeys rises = refl

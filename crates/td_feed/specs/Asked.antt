@@ -8,9 +8,9 @@ use Rattle.td_console.specs.declared.faults.LineFault.{LineFault}
 use Rattle.td_console.specs.declared.faults.LineFault.TheVariants.{Syntax}
 use Rattle.td_console.specs.declared.faults.Fault.{Fault}
 use Rattle.td_console.specs.declared.faults.Fault.TheVariants.{Input, Line, Memory, Keeper}
-use Rattle.td_standing.specs.declared.error.KeeperError.TheVariants.{TooManyRecords}
+use Rattle.td_store.specs.declared.standing.error.KeeperError.TheVariants.{TooManyRecords}
 use Rattle.td_journal.specs.declared.submitted.Submitted.{Submitted}
-use Rattle.td_group.specs.Groups.{may_follow}
+use Rattle.td_store.specs.group.Groups.{may_follow}
 use Rattle.td_journal.specs.Numbers.{may_come}
 use Rattle.td_feed.specs.declared.note.Flaw.{Flaw}
 use Rattle.td_feed.specs.declared.note.Cause.TheVariants as cause

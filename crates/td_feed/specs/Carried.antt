@@ -2,13 +2,13 @@
 use Rattle.std.specs.Prelude.{◌≡◌, ◌⊎◌, ℕ, ◌+◌, ◌≤◌, Bool, true, false, List, [], ◌∷◌, ◌++◌, length, take, Some}
 use Rattle.td_plan.specs.Lines.{Line}
 use Rattle.td_calls.specs.Answers.{Answers}
-use Rattle.td_disk.specs.Disk.{DiskState}
+use Rattle.td_disk.specs.Disk.{DiskView, DiskState}
 use Rattle.td_journal.specs.declared.submitted.Submitted.{Submitted}
 use Rattle.td_journal.specs.Numbers.{greatest}
-use Rattle.td_group.specs.Groups.{may_follow}
-use Rattle.td_standing.specs.Standing.{last_epoch, last_request, submission}
-use Rattle.td_standing.specs.Stops.{Stands}
-use Rattle.td_standing.specs.Advanced.{states_by}
+use Rattle.td_store.specs.group.Groups.{may_follow}
+use Rattle.td_store.specs.standing.Standing.{last_epoch, last_request, submission}
+use Rattle.td_store.specs.standing.Stops.{Stands}
+use Rattle.td_store.specs.standing.Advanced.{states_by}
 use Rattle.td_keeper.specs.Keeping.{Keeping}
 use Rattle.td_keeper.specs.declared.command.Command.{Command}
 use Rattle.td_keeper.specs.declared.command.Command.TheVariants.{Submit, SubmitAs, SubmitAll, WriteCut, CloseFree}
@@ -36,16 +36,16 @@ abbrev pub TellsSome : Answers → List Line → List Submitted → List Submitt
 TellsSome answers plan history more n k image = TellsHistory answers plan (history ++ take n more) image ⊎ ((n + k ≤ length more) × TellsHistory answers plan (history ++ take (n + k) more) image)
 
 -- THE DEVICE FAILED, with the first n of more batches submitted, while k more perhaps were: each image tells so many
-abbrev pub Stopped : {D : Type 0} → (D → Type 0) → (D → DiskState) → Answers → Keeping D → Keeping D → List Submitted → ℕ → ℕ → Type 0
-Stopped is_lawful state answers old new more n k = (history : List Submitted) → StandsFor answers old history
-    → is_lawful new.device → (c : List ℕ) → (state new.device).images c → TellsSome answers old.plan history more n k c
+abbrev pub Stopped : {D : Type 0} → (D → DiskView) → Answers → Keeping D → Keeping D → List Submitted → ℕ → ℕ → Type 0
+Stopped view answers old new more n k = (history : List Submitted) → StandsFor answers old history
+    → (view new.device).lawful → (c : List ℕ) → (view new.device).state.images c → TellsSome answers old.plan history more n k c
 
 -- WHAT A REFUSAL LEAVES, where more batches were to be submitted: some of them were, or with these the whole group that came next
-pub record Leaves {D : Type 0} (is_lawful : D → Type 0) (state : D → DiskState) (answers : Answers) (old new : Keeping D) (more : List Submitted) : Type 0 where
+pub record Leaves {D : Type 0} (view : D → DiskView) (answers : Answers) (old new : Keeping D) (more : List Submitted) : Type 0 where
   pub count : ℕ
   pub group : ℕ
   pub few : count ≤ length more
-  pub left : Carries answers old new (take count more) ⊎ Stopped is_lawful state answers old new more count group
+  pub left : Carries answers old new (take count more) ⊎ Stopped view answers old new more count group
 
 -- what a command would submit
 abbrev pub batch_in : Command → List Submitted

@@ -2,7 +2,7 @@
 use Rattle.std.specs.Prelude.{◌≡◌, ℕ, ◌≤◌, List, ◌++◌, length, map, take, All, codes, string_bytes, Option, option_map}
 use Rattle.td_plan.specs.Lines.{Line as PlanLine}
 use Rattle.td_calls.specs.Answers.{Answers}
-use Rattle.td_disk.specs.Disk.{DiskState}
+use Rattle.td_disk.specs.Disk.{DiskView, DiskState}
 use Rattle.td_journal.specs.declared.submitted.Submitted.{Submitted}
 use Rattle.td_keeper.specs.Keeping.{Keeping}
 use Rattle.td_feed.specs.declared.host.Why.{Why}
@@ -25,17 +25,17 @@ abbrev pub labels : {E : Type 0} → List (Copied E) → List (List ℕ × ℕ)
 labels made = map (λ c. (c.name, c.epoch)) made
 
 -- A COPY IS OF A HISTORY: it goes up to one of its epochs, and whatever a crash leaves of its disk tells the history up to there
-pub record IsCopyOf {E : Type 0} (is_lawful : E → Type 0) (state : E → DiskState) (answers : Answers) (plan : List PlanLine) (history : List Submitted) (c : Copied E) : Type 0 where
+pub record IsCopyOf {E : Type 0} (view : E → DiskView) (answers : Answers) (plan : List PlanLine) (history : List Submitted) (c : Copied E) : Type 0 where
   pub within : c.epoch ≤ length history
-  pub tells : is_lawful c.disk → EachTellsHistory answers plan (take c.epoch history) (state c.disk)
+  pub tells : (view c.disk).lawful → EachTellsHistory answers plan (take c.epoch history) (view c.disk).state
 
-module _ {D E : Type 0} (is_lawful : D → Type 0) (is_new_lawful : E → Type 0) (new_state : E → DiskState) (answers : Answers) where
+module _ {D E : Type 0} (view : D → DiskView) (new_view : E → DiskView) (answers : Answers) where
   -- COPIES OF A KEEPER WERE MADE, with these names and epochs, and are kept: each is of the history for which it stood, with these batches
   pub record MakesCopies (said : List (List ℕ × ℕ)) (had has : Option (List (Copied E))) (old : Keeping D) (x : List Submitted) : Type 0 where
     pub made : List (Copied E)
     pub kept : has ≡ with_copies had made
     pub labelled : labels made ≡ said
-    pub each : is_lawful old.device → (history : List Submitted) → StandsFor answers old history → All (IsCopyOf is_new_lawful new_state answers old.plan (history ++ x)) made
+    pub each : (view old.device).lawful → (history : List Submitted) → StandsFor answers old history → All (IsCopyOf new_view answers old.plan (history ++ x)) made
 
 -- why a copy was not made
 abbrev pub why_text : Why → List ℕ

@@ -10,12 +10,12 @@ use Rattle.td_gate.specs.Reading.{Each}
 use Rattle.td_journal.specs.declared.submitted.Submitted.{Submitted}
 use Rattle.td_head.specs.declared.head.Head.{Head}
 use Rattle.td_head.specs.Layout.{Sizes}
-use Rattle.td_standing.specs.Standing.{Standing, last_epoch, last_request}
-use Rattle.td_standing.specs.Tells.{Keeps}
+use Rattle.td_store.specs.standing.Standing.{Standing, last_epoch, last_request}
+use Rattle.td_store.specs.standing.Tells.{Keeps}
 use Rattle.td_feed.specs.declared.order.Order.{Order}
 use Rattle.td_stamp.specs.States.{StateList}
 use Rattle.td_journal.specs.Numbers.{greatest}
-use Rattle.td_standing.specs.Stops.{Stands}
+use Rattle.td_store.specs.standing.Stops.{Stands}
 use Rattle.td_feed.specs.Orders.{orders_of, submissions, new_after}
 use Rattle.td_feed.specs.Asked.{script_of}
 use Rattle.td_feed.specs.Placed.{placed}

@@ -8,11 +8,11 @@ use Rattle.td_pool.specs.declared.error.PoolError.{PoolError}
 use Rattle.td_pool.specs.declared.error.PoolError.TheVariants as pool
 use Rattle.td_disk.specs.Disk.{DiskState}
 use Rattle.td_journal.specs.declared.submitted.Submitted.{Submitted}
-use Rattle.td_standing.specs.declared.error.KeeperError.TheVariants as keeper
-use Rattle.td_standing.specs.Standing.{Standing}
-use Rattle.td_standing.specs.Stops.{Stands}
-use Rattle.td_standing.specs.Told.{Told}
-use Rattle.td_standing.specs.Advanced.{states_by}
+use Rattle.td_store.specs.declared.standing.error.KeeperError.TheVariants as keeper
+use Rattle.td_store.specs.standing.Standing.{Standing}
+use Rattle.td_store.specs.standing.Stops.{Stands}
+use Rattle.td_store.specs.standing.Told.{Told}
+use Rattle.td_store.specs.standing.Advanced.{states_by}
 use Rattle.td_console.specs.declared.faults.Fault.{Fault}
 use Rattle.td_console.specs.declared.faults.Fault.TheVariants.{NoCall, Memory, Spent, Keeper}
 

@@ -12,7 +12,7 @@ use Rattle.td_plan.specs.Inputs.{is_input_of}
 use Rattle.td_head.specs.Layout.{Sizes, is_shape}
 use Rattle.td_journal.specs.declared.submitted.Submitted.{Submitted}
 use Rattle.td_journal.specs.Numbers.{may_come}
-use Rattle.td_standing.specs.Standing.{submission}
+use Rattle.td_store.specs.standing.Standing.{submission}
 use Rattle.td_console.specs.declared.data_line.DataLine.TheVariants.{PassedOver, Record, Close}
 use Rattle.td_console.specs.declared.faults.LineFault.TheVariants.{Syntax, NoSuchInput, NotClosed, NoSuchFold}
 use Rattle.td_console.specs.declared.faults.Fault.{Fault}

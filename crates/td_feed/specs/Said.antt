@@ -6,16 +6,16 @@ use Rattle.std.specs.Io.KnownBytes.{Appends}
 use Rattle.td_stamp.specs.declared.epoch_out.EpochOut.{EpochOut}
 use Rattle.td_plan.specs.Lines.{Line as PlanLine}
 use Rattle.td_calls.specs.Answers.{Answers}
-use Rattle.td_disk.specs.Disk.{DiskState, Rises, IsDurable}
+use Rattle.td_disk.specs.Disk.{DiskView, DiskState, Rises, IsDurable}
 use Rattle.td_gate.specs.CrashSafe.{CrashSafe, Unchanged}
 use Rattle.td_journal.specs.declared.submitted.Submitted.{Submitted as AnySubmitted}
 use Rattle.td_watch.specs.View.{View}
-use Rattle.td_standing.specs.declared.error.KeeperError.TheVariants.{Device}
-use Rattle.td_standing.specs.Read.{Refused as Refusal}
-use Rattle.td_standing.specs.Told.{Told}
-use Rattle.td_standing.specs.Tells.{Keeps}
-use Rattle.td_standing.specs.Standing.{Standing, last_epoch, last_request}
-use Rattle.td_standing.specs.Advanced.{HeldWhere}
+use Rattle.td_store.specs.declared.standing.error.KeeperError.TheVariants.{Device}
+use Rattle.td_store.specs.standing.Read.{Refused as Refusal}
+use Rattle.td_store.specs.standing.Told.{Told}
+use Rattle.td_store.specs.standing.Tells.{Keeps}
+use Rattle.td_store.specs.standing.Standing.{Standing, last_epoch, last_request}
+use Rattle.td_store.specs.standing.Advanced.{HeldWhere}
 use Rattle.td_keeper.specs.declared.command.Command.{Command}
 use Rattle.td_keeper.specs.declared.command.Reply.{Reply}
 use Rattle.td_keeper.specs.declared.command.Reply.TheVariants.{Submitted, SubmittedAs, SubmittedAll, Out, Answered, Written, Refused, RefusedAll}
@@ -163,12 +163,12 @@ pub record Wanted : Type 0 where
 abbrev pub epochs_alone : List AnySubmitted → Wanted
 epochs_alone x = record { epochs = λ told last. x; notes = λ told last. []; limit = None }
 
-module _ {D : Type 0} (is_lawful : D → Type 0) (state : D → DiskState) (failures : D → ℕ) (answers : Answers) (marks : Bool) where
+module _ {D : Type 0} (view : D → DiskView) (answers : Answers) (marks : Bool) where
   -- A KEEPER WAS TOLD WHAT SUBMITS THESE, and the lines of its replies were appended to what a writer holds, and these notes, answers and
   -- copies beside them, all of them, in order
   pub record Says (before after : Option (List ℕ)) (old new : Keeping D) (x : List AnySubmitted) (notes : List Aside) : Type 0 where
     pub sayings : List Saying
-    pub driven : Driven is_lawful state failures answers (commands_in sayings) (replies_in sayings) old new
+    pub driven : Driven view answers (commands_in sayings) (replies_in sayings) old new
     pub submitted : submitted_by (commands_in sayings) (replies_in sayings) ≡ x
     pub noted : notes_among sayings ≡ notes
     pub said : Appends before after (lines_of marks sayings)
@@ -176,7 +176,7 @@ module _ {D : Type 0} (is_lawful : D → Type 0) (state : D → DiskState) (fail
   -- or a beginning of them: no line is written before its reply, and the notes are the first of these
   pub record SaysSome (before after : Option (List ℕ)) (old new : Keeping D) (notes : List Aside) : Type 0 where
     pub sayings : List Saying
-    pub driven : Driven is_lawful state failures answers (commands_in sayings) (replies_in sayings) old new
+    pub driven : Driven view answers (commands_in sayings) (replies_in sayings) old new
     pub later : List Aside
     pub noted : notes_among sayings ++ later ≡ notes
     pub text : List ℕ
@@ -188,7 +188,7 @@ module _ {D : Type 0} (is_lawful : D → Type 0) (state : D → DiskState) (fail
   pub record SaysUnheard (old new : Keeping D) : Type 0 where
     pub commands : List Command
     pub replies : List Reply
-    pub driven : Driven is_lawful state failures answers commands replies old new
+    pub driven : Driven view answers commands replies old new
 
   -- all of them after Ok, and a beginning at a refusal
   abbrev pub SaysBy : Result (Unit {0}) Fault → Option (List ℕ) → Option (List ℕ) → Keeping D → Keeping D → List AnySubmitted → List Aside → Type 0
@@ -203,16 +203,16 @@ module _ {D : Type 0} (is_lawful : D → Type 0) (state : D → DiskState) (fail
     pub keeper : Keeping D
     pub fresh : IsFreshlyOpened keeper
     pub plan_is : keeper.plan ≡ plan
-    pub told : is_lawful disk → Told plan (state keeper.device).bytes (Ok keeper.standing)
+    pub told : (view disk).lawful → Told plan (view keeper.device).state.bytes (Ok keeper.standing)
     pub watch : Option View
     pub kept : IsKeeping (record keeper { watch = watch }) answers
-    pub lawful : is_lawful disk → is_lawful keeper.device
-    pub unwritten : is_lawful disk → CrashSafe Unchanged (state disk) (state keeper.device)
-    pub found : is_lawful disk → Keeps plan keeper.head keeper.side keeper.standing (state keeper.device)
+    pub lawful : (view disk).lawful → (view keeper.device).lawful
+    pub unwritten : (view disk).lawful → CrashSafe Unchanged (view disk).state (view keeper.device).state
+    pub found : (view disk).lawful → Keeps plan keeper.head keeper.side keeper.standing (view keeper.device).state
     pub ended : Keeping D
     pub left_is : left ≡ ended.device
-    pub lawful_left : is_lawful disk → is_lawful left
-    pub holds : is_lawful left → HeldWhere ended.broken answers ended.plan ended.head ended.side ended.standing (state left)
+    pub lawful_left : (view disk).lawful → (view left).lawful
+    pub holds : (view left).lawful → HeldWhere ended.broken answers ended.plan ended.head ended.side ended.standing (view left).state
     pub limit : IfSome wanted.limit (λ most. most ≡ keeper.head.shape.m)
     pub notes : List Aside
     pub came : ComeOf (wanted.notes (last_epoch keeper.standing) (last_request keeper.standing)) notes
@@ -222,9 +222,9 @@ module _ {D : Type 0} (is_lawful : D → Type 0) (state : D → DiskState) (fail
 
   -- OR NO KEEPER WAS FOUND on it: the disk tells this refusal, or a call of it or memory failed; and nothing was written, there or to a writer
   pub record IsUntouched (fault : Fault) (plan : List PlanLine) (disk left : D) (before after : Option (List ℕ)) : Type 0 where
-    pub refused : (fault ≡ Memory) ⊎ (((fault ≡ AsKeeper Device) × Rises (failures disk) (failures left))
-        ⊎ IsRefusedAs fault (λ error. is_lawful disk → IsDurable (state left) × Told plan (state left).bytes (Refusal error)))
-    pub unwritten : is_lawful disk → CrashSafe Unchanged (state disk) (state left)
+    pub refused : (fault ≡ Memory) ⊎ (((fault ≡ AsKeeper Device) × Rises (view disk).failures (view left).failures)
+        ⊎ IsRefusedAs fault (λ error. (view disk).lawful → IsDurable (view left).state × Told plan (view left).state.bytes (Refusal error)))
+    pub unwritten : (view disk).lawful → CrashSafe Unchanged (view disk).state (view left).state
     pub said : after ≡ before
 
   abbrev pub SaysFed : Result (Unit {0}) Fault → List PlanLine → Bool → D → D → Option (List ℕ) → Option (List ℕ) → Wanted → Type 0
@@ -238,10 +238,10 @@ module _ {D : Type 0} (is_lawful : D → Type 0) (state : D → DiskState) (fail
   copies_said (Err fault) plan alone disk left before after wanted (inl untouched) = []
   copies_said (Err fault) plan alone disk left before after wanted (inr from) = copied_in from.notes
 
-module _ {D : Type 0} (is_lawful : D → Type 0) (state : D → DiskState) (failures : D → ℕ) (answers : Answers) where
+module _ {D : Type 0} (view : D → DiskView) (answers : Answers) where
   -- ONE COMMAND that was refused: by the keeper, or before it was told
   abbrev pub Refuses : Command → Keeping D → Keeping D → Type 0
-  Refuses command old new = (new ≡ old) ⊎ ((reply : Reply) × (is_refused reply ≡ true) × Driven is_lawful state failures answers (command ∷ []) (reply ∷ []) old new)
+  Refuses command old new = (new ≡ old) ⊎ ((reply : Reply) × (is_refused reply ≡ true) × Driven view answers (command ∷ []) (reply ∷ []) old new)
 
 -- AN IMAGE TELLS EACH EPOCH that some replies acknowledge
 pub record TellsAcknowledged (plan : List PlanLine) (replies : List Reply) (image : List ℕ) : Type 0 where

@@ -2,19 +2,20 @@
 use Rattle.std.specs.Prelude.{◌≡◌, ◌⊎◌, ℕ, Bool, false, true, List, [], ◌∷◌, ◌++◌, length, All, Option, Some, None, Result, Ok, OnOk, OnErr, IsErr}
 use Rattle.td_plan.specs.Lines.{Line as PlanLine}
 use Rattle.td_calls.specs.Answers.{Answers}
-use Rattle.td_disk.specs.Disk.{DiskState}
+use Rattle.td_disk.specs.Disk.{DiskView, DiskState}
 use Rattle.td_journal.specs.declared.submitted.Submitted.{Submitted as AnySubmitted}
 use Rattle.td_journal.specs.Numbers.{greatest}
-use Rattle.td_standing.specs.declared.error.KeeperError.TheVariants.{Device}
-use Rattle.td_standing.specs.Standing.{Standing, last_epoch, last_request}
-use Rattle.td_standing.specs.Told.{Told}
+use Rattle.td_store.specs.declared.standing.error.KeeperError.TheVariants.{Device}
+use Rattle.td_store.specs.standing.Standing.{Standing, last_epoch, last_request}
+use Rattle.td_store.specs.standing.Told.{Told}
 use Rattle.td_keeper.specs.declared.command.Command.{Command}
 use Rattle.td_keeper.specs.declared.command.Reply.{Reply}
-use Rattle.td_keeper.specs.Calls.{KeepsDevice}
+use Rattle.td_disk.specs.Calls.{KeepsDevice}
 use Rattle.td_keeper.specs.Keeping.{Keeping, EachKeepsTo, EverKeepsTo}
 use Rattle.td_keeper.specs.Driven.{submitted_in, Obeys, Driven}
 use Rattle.td_console.specs.declared.faults.Fault.{Fault}
 use Rattle.td_console.specs.declared.faults.Fault.TheVariants.{Keeper}
+use Rattle.td_feed.specs.declared.streaming.StreamOptions.{StreamOptions}
 use Rattle.td_feed.specs.Noted.{Aside, ComeOf, copied_in}
 use Rattle.td_feed.specs.Orders.{submissions, notes_in, new_after}
 use Rattle.td_feed.specs.Asked.{Script, script_of}
@@ -38,30 +39,38 @@ wanted_by refuse limit script = record {
   limit = limit;
 }
 
--- THE DISK IS KEPT: it is as large as it was, and as lawful; and its device is told to have failed exactly where it did
-abbrev pub KeepsDisk : {D T : Type 0} → (D → ℕ) → (D → Type 0) → (D → ℕ) → Result T Fault → D → D → Type 0
-KeepsDisk capacity is_lawful failures result old new = KeepsDevice capacity is_lawful failures (Keeper Device) result old new
+-- the script of a stream's input, by its options, where an epoch of the disk has at most so many records
+abbrev pub script_by : StreamOptions → ℕ → List PlanLine → List ℕ → Script
+script_by how records plan input = script_of how.placing how.hold how.questions how.copies (limit_of how.refuse records) plan input
 
-module _ {D : Type 0} (is_lawful : D → Type 0) (state : D → DiskState) (failures : D → ℕ) (answers : Answers) where
+-- and what it asks for
+abbrev pub wanted_of : StreamOptions → ℕ → List PlanLine → List ℕ → Wanted
+wanted_of how records plan input = wanted_by how.refuse (limit_of how.refuse records) (script_by how records plan input)
+
+-- THE DISK IS KEPT: it is as large as it was, and as lawful; and its device is told to have failed exactly where it did
+abbrev pub KeepsDisk : {D T : Type 0} → (D → DiskView) → Result T Fault → D → D → Type 0
+KeepsDisk view result old new = KeepsDevice view (Keeper Device) result old new
+
+module _ {D : Type 0} (view : D → DiskView) (answers : Answers) where
   -- ONE COMMAND WAS OBEYED: the reply is no refusal, and the keeper goes on with what it submitted
   pub record IsObeyed (command : Command) (reply : Reply) (old new : Keeping D) : Type 0 where
-    pub obeyed : Obeys is_lawful state failures answers command reply old new
-    pub driven : Driven is_lawful state failures answers (command ∷ []) (reply ∷ []) old new
+    pub obeyed : Obeys view answers command reply old new
+    pub driven : Driven view answers (command ∷ []) (reply ∷ []) old new
     pub done : is_refused reply ≡ false
     pub carried : Carries answers old new (submitted_in command reply)
 
   -- or it was refused
   pub record IsNotObeyed (command : Command) (old new : Keeping D) : Type 0 where
-    pub refused : Refuses is_lawful state failures answers command old new
-    pub left : Leaves is_lawful state answers old new (new_to old (batch_in command))
+    pub refused : Refuses view answers command old new
+    pub left : Leaves view answers old new (new_to old (batch_in command))
 
-module _ {D : Type 0} (is_lawful : D → Type 0) (state : D → DiskState) (failures : D → ℕ) (answers : Answers) (marks : Bool) where
+module _ {D : Type 0} (view : D → DiskView) (answers : Answers) (marks : Bool) where
   -- THESE ARE FED, and these noted, answered or copied: after Ok the keeper goes on with all of them, after a refusal with some; and what was
   -- written are the lines of its replies, the notes, the answers, and those of the copies
   pub record FeedsNoting (result : Result (Unit {0}) Fault) (before after : Option (List ℕ)) (old new : Keeping D) (x : List AnySubmitted) (notes : List Aside) : Type 0 where
     pub carried : OnOk result (Carries answers old new x)
-    pub left : OnErr result (Leaves is_lawful state answers old new x)
-    pub said : SaysBy is_lawful state failures answers marks result before after old new x notes
+    pub left : OnErr result (Leaves view answers old new x)
+    pub said : SaysBy view answers marks result before after old new x notes
 
   -- with no note and no answer
   abbrev pub Feeds : Result (Unit {0}) Fault → Option (List ℕ) → Option (List ℕ) → Keeping D → Keeping D → List AnySubmitted → Type 0
@@ -71,53 +80,53 @@ module _ {D : Type 0} (is_lawful : D → Type 0) (state : D → DiskState) (fail
   pub record FeedsDisk (result : Result (Unit {0}) Fault) (plan : List PlanLine) (alone : Bool) (disk left : D) (before after : Option (List ℕ)) (wanted : Wanted) : Type 0 where
     -- one that stood for a history, whatever a crash had left of it, stands after Ok for that and each of these that is new: has no
     -- request number, or one that is above all before
-    pub fed : OnOk result (is_lawful disk → (history : List AnySubmitted) → EachTellsHistory answers plan history (state disk)
-        → EachTellsHistory answers plan (history ++ new_after (greatest 0 history) (wanted.epochs (length history) (greatest 0 history))) (state left))
+    pub fed : OnOk result ((view disk).lawful → (history : List AnySubmitted) → EachTellsHistory answers plan history (view disk).state
+        → EachTellsHistory answers plan (history ++ new_after (greatest 0 history) (wanted.epochs (length history) (greatest 0 history))) (view left).state)
     -- at any answer it stands for that and a beginning of them: some number of them, or with these the whole group that came next
-    pub safe : is_lawful disk → (history : List AnySubmitted) → EachTellsHistory answers plan history (state disk)
-        → EachTellsSome answers plan history (new_after (greatest 0 history) (wanted.epochs (length history) (greatest 0 history))) (state left)
+    pub safe : (view disk).lawful → (history : List AnySubmitted) → EachTellsHistory answers plan history (view disk).state
+        → EachTellsSome answers plan history (new_after (greatest 0 history) (wanted.epochs (length history) (greatest 0 history))) (view left).state
     -- what is written are the lines of what the keeper of the disk replied, and the notes, one after another: all of them after Ok, and
     -- a beginning of them at a refusal, where the writer did not fail
-    pub said : SaysFed is_lawful state failures answers marks result plan alone disk left before after wanted
+    pub said : SaysFed view answers marks result plan alone disk left before after wanted
 
   -- A DISK IS FED AS THE INPUT COMES: what its script asks for, where epochs have places or not; Ok is answered only to one without a fault,
   -- and a gap is one, unless epochs are refused. Of a stream that refuses epochs, one may have so many records
-  pub record StreamsDisk (placing refuse hold questions copies : Bool) (result : Result (Unit {0}) Fault) (plan : List PlanLine) (alone : Bool) (disk left : D) (before after : Option (List ℕ)) (input : List ℕ) : Type 0 where
+  pub record StreamsDisk (how : StreamOptions) (result : Result (Unit {0}) Fault) (plan : List PlanLine) (alone : Bool) (disk left : D) (before after : Option (List ℕ)) (input : List ℕ) : Type 0 where
     pub records : ℕ
-    pub sound : OnOk result ((script_of placing hold questions copies (limit_of refuse records) plan input).is_sound ≡ true)
-    pub no_gap : OnOk result (is_lawful disk → (history : List AnySubmitted) → EachTellsHistory answers plan history (state disk)
-        → (placed refuse (length history) (greatest 0 history) (script_of placing hold questions copies (limit_of refuse records) plan input)).is_sound ≡ true)
-    pub fed : FeedsDisk result plan alone disk left before after (wanted_by refuse (limit_of refuse records) (script_of placing hold questions copies (limit_of refuse records) plan input))
+    pub sound : OnOk result ((script_by how records plan input).is_sound ≡ true)
+    pub no_gap : OnOk result ((view disk).lawful → (history : List AnySubmitted) → EachTellsHistory answers plan history (view disk).state
+        → (placed how.refuse (length history) (greatest 0 history) (script_by how records plan input)).is_sound ≡ true)
+    pub fed : FeedsDisk result plan alone disk left before after (wanted_of how records plan input)
     -- where outputs are held, nothing is kept beyond the last epoch that the input says was seen, whatever a crash leaves: so each later
     -- stream writes again the outputs of every epoch after it
-    pub held : hold ≡ true → is_lawful disk → (kept : ℕ) → EachKeepsTo plan kept (state disk)
-        → EachKeepsTo plan (seen_after kept (script_of placing hold questions copies (limit_of refuse records) plan input).orders) (state left)
+    pub held : how.hold ≡ true → (view disk).lawful → (kept : ℕ) → EachKeepsTo plan kept (view disk).state
+        → EachKeepsTo plan (seen_after kept (script_by how records plan input).orders) (view left).state
     -- nor whatever a crash left at any moment of the stream, in the middle of a write too
-    pub ever_held : hold ≡ true → is_lawful disk → (kept : ℕ) → EachKeepsTo plan kept (state disk)
-        → EverKeepsTo plan (seen_after kept (script_of placing hold questions copies (limit_of refuse records) plan input).orders) (state disk).moment (state left)
+    pub ever_held : how.hold ≡ true → (view disk).lawful → (kept : ℕ) → EachKeepsTo plan kept (view disk).state
+        → EverKeepsTo plan (seen_after kept (script_by how records plan input).orders) (view disk).state.moment (view left).state
 
-module _ {D : Type 0} (is_lawful : D → Type 0) (state : D → DiskState) where
+module _ {D : Type 0} (view : D → DiskView) where
   -- THE HOST IS TOLD WHAT WAS SEEN, where outputs are held: at first the epoch that the disk keeps, and then that of each line that was
   -- taken, after Ok of all
-  pub record SeesDisk (placing refuse hold questions copies : Bool) (result : Result (Unit {0}) Fault) (plan : List PlanLine) (disk : D) (before after : Option ℕ) (input : List ℕ) : Type 0 where
+  pub record SeesDisk (how : StreamOptions) (result : Result (Unit {0}) Fault) (plan : List PlanLine) (disk : D) (before after : Option ℕ) (input : List ℕ) : Type 0 where
     pub records : ℕ
     pub standing : Standing
-    pub told : is_lawful disk → (c : List ℕ) × (state disk).images c × Told plan c (Ok standing)
-    pub seen : TellsSeen result (first_seen hold standing.epoch)
-        (placed refuse (last_epoch standing) (last_request standing) (script_of placing hold questions copies (limit_of refuse records) plan input)).orders before after
+    pub told : (view disk).lawful → (c : List ℕ) × (view disk).state.images c × Told plan c (Ok standing)
+    pub seen : TellsSeen result (first_seen how.hold standing.epoch)
+        (placed how.refuse (last_epoch standing) (last_request standing) (script_by how records plan input)).orders before after
 
   -- or no keeper was found on the disk, and it is told nothing
-  abbrev pub SeesOrNot : Bool → Bool → Bool → Bool → Bool → Result (Unit {0}) Fault → List PlanLine → D → Option ℕ → Option ℕ → List ℕ → Type 0
-  SeesOrNot placing refuse hold questions copies result plan disk before after input =
-      (IsErr result × (after ≡ before)) ⊎ SeesDisk placing refuse hold questions copies result plan disk before after input
+  abbrev pub SeesOrNot : StreamOptions → Result (Unit {0}) Fault → List PlanLine → D → Option ℕ → Option ℕ → List ℕ → Type 0
+  SeesOrNot how result plan disk before after input =
+      (IsErr result × (after ≡ before)) ⊎ SeesDisk how result plan disk before after input
 
-module _ {D E : Type 0} (is_lawful : D → Type 0) (state : D → DiskState) (failures : D → ℕ) (answers : Answers) (marks : Bool) (is_new_lawful : E → Type 0) (new_state : E → DiskState) where
+module _ {D E : Type 0} (view : D → DiskView) (answers : Answers) (marks : Bool) (new_view : E → DiskView) where
   -- THESE ARE FED, and what is asked for beside them is done: the lines say which copies were made, and these are kept
   pub record FeedsCopying (result : Result (Unit {0}) Fault) (before after : Option (List ℕ)) (had has : Option (List (Copied E))) (old new : Keeping D) (x : List AnySubmitted) (asked : List Aside) : Type 0 where
     pub done : List Aside
     pub came : ComeOf asked done
-    pub fed : FeedsNoting is_lawful state failures answers marks result before after old new x done
-    pub copied : MakesCopies is_lawful is_new_lawful new_state answers (copied_in done) had has old x
+    pub fed : FeedsNoting view answers marks result before after old new x done
+    pub copied : MakesCopies view new_view answers (copied_in done) had has old x
 
   -- A SCRIPT IS FED, those of its batches that are new to the keeper, and what it asks for beside is done; and Ok is answered only to one
   -- without a fault
@@ -131,12 +140,12 @@ module _ {D E : Type 0} (is_lawful : D → Type 0) (state : D → DiskState) (fa
     pub made : List (Copied E)
     pub kept : has ≡ with_copies had made
     pub labelled : labels made ≡ said
-    pub each : is_lawful disk → (history : List AnySubmitted) → EachTellsHistory answers plan history (state disk)
-        → All (IsCopyOf is_new_lawful new_state answers plan (history ++ new_after (greatest 0 history) (wanted.epochs (length history) (greatest 0 history)))) made
+    pub each : (view disk).lawful → (history : List AnySubmitted) → EachTellsHistory answers plan history (view disk).state
+        → All (IsCopyOf new_view answers plan (history ++ new_after (greatest 0 history) (wanted.epochs (length history) (greatest 0 history)))) made
 
   -- AND COPIED, where it asks for that
-  pub record StreamsCopying (placing refuse hold questions copies : Bool) (result : Result (Unit {0}) Fault) (plan : List PlanLine) (alone : Bool) (disk left : D) (before after : Option (List ℕ)) (had has : Option (List (Copied E))) (input : List ℕ) : Type 0 where
-    pub streams : StreamsDisk is_lawful state failures answers marks placing refuse hold questions copies result plan alone disk left before after input
-    pub copied : CopiesDisk plan (copies_said is_lawful state failures answers marks result plan alone disk left before after
-        (wanted_by refuse (limit_of refuse streams.records) (script_of placing hold questions copies (limit_of refuse streams.records) plan input)) streams.fed.said) had has disk
-        (wanted_by refuse (limit_of refuse streams.records) (script_of placing hold questions copies (limit_of refuse streams.records) plan input))
+  pub record StreamsCopying (how : StreamOptions) (result : Result (Unit {0}) Fault) (plan : List PlanLine) (alone : Bool) (disk left : D) (before after : Option (List ℕ)) (had has : Option (List (Copied E))) (input : List ℕ) : Type 0 where
+    pub streams : StreamsDisk view answers marks how result plan alone disk left before after input
+    pub copied : CopiesDisk plan (copies_said view answers marks result plan alone disk left before after
+        (wanted_of how streams.records plan input) streams.fed.said) had has disk
+        (wanted_of how streams.records plan input)

@@ -8,8 +8,8 @@ use Rattle.td_slots.specs.declared.slots.Checkpoint.{Checkpoint}
 use Rattle.td_journal.specs.declared.submitted.Submitted.{Submitted}
 use Rattle.td_journal.specs.declared.submitted.Counts.{Counts}
 use Rattle.td_journal.specs.Counts.{greatest_counted}
-use Rattle.td_standing.specs.Standing.{Standing, last_epoch, last_request}
-use Rattle.td_standing.specs.declared.error.KeeperError.{KeeperError}
+use Rattle.td_store.specs.standing.Standing.{Standing, last_epoch, last_request}
+use Rattle.td_store.specs.declared.standing.error.KeeperError.{KeeperError}
 use Rattle.td_console.specs.declared.faults.Fault.{Fault}
 use Rattle.td_console.specs.declared.faults.Fault.TheVariants.{Keeper}
 

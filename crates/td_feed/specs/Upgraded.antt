@@ -3,8 +3,8 @@ use Rattle.std.specs.Prelude.{ℕ, ◌≤◌, List, codes}
 use Rattle.td_plan.specs.Lines.{Line}
 use Rattle.td_disk.specs.Disk.{DiskState}
 use Rattle.td_head.specs.declared.head.Head.{Head}
-use Rattle.td_standing.specs.Standing.{Standing}
-use Rattle.td_standing.specs.Tells.{Keeps}
+use Rattle.td_store.specs.standing.Standing.{Standing}
+use Rattle.td_store.specs.standing.Tells.{Keeps}
 
 -- what is written of it
 abbrev pub version_line : List ℕ

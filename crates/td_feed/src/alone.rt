@@ -5,7 +5,7 @@
 ghost use Rattle.std.specs.Prelude.{◌≡◌, false, None, IfSome, OnOk};
 ghost use Rattle.td_plan.specs.Blocks.{vertices};
 ghost use Rattle.td_calls.specs.Fits.{first_lack};
-ghost use Rattle.td_standing.specs.Standing.{last_epoch, last_request};
+ghost use Rattle.td_store.specs.standing.Standing.{last_epoch, last_request};
 ghost use Rattle.td_feed.specs.Held.{KeepsTo, TellsSeen, seen_at, then_seen};
 ghost use Rattle.td_feed.specs.Said.{IsAllOut};
 ghost use Rattle.td_feed.specs.Session.{KeepsDisk, FeedsScript};
@@ -23,7 +23,7 @@ use td_core::HallError;
 use td_disk::Disk;
 use td_keeper::{Engine, Keeper};
 use td_pool::PoolError;
-use td_standing::KeeperError;
+use td_store::standing::KeeperError;
 
 /// Obeys orders by a hall of the keeper's own, in this thread, and settles: so nothing is locked, lent or compared. Refusals: `Epochs`,
 /// where the checkpoint's epoch is the last that there can be; those of what asks for the orders, of the keeper, of the tasks and of the
@@ -49,8 +49,8 @@ pub(crate) fn obey_alone<
     requires whole { keeper.broken ≡ false }
     requires fits { first_lack (C.has_map calls.now) (C.has_group calls.now) (C.has_fold calls.now) (vertices keeper.plan) ≡ None }
     requires collected { keeper.collected ≡ keeper.base }
-    ensures disk { KeepsDisk D.capacity D.is_lawful D.failures result.1 keeper.device result.0.device }
-    ensures fed { IfSome (S.script (last_epoch keeper.standing) (last_request keeper.standing) orders) (λ script. FeedsScript D.is_lawful D.state D.failures L.answers W.marks H.New.is_lawful H.New.state result.1 (W.contents writer.old) (W.contents writer.new) (H.copies host.old) (H.copies host.new) keeper result.0 script) }
+    ensures disk { KeepsDisk D.view result.1 keeper.device result.0.device }
+    ensures fed { IfSome (S.script (last_epoch keeper.standing) (last_request keeper.standing) orders) (λ script. FeedsScript D.view L.answers W.marks H.New.view result.1 (W.contents writer.old) (W.contents writer.new) (H.copies host.old) (H.copies host.new) keeper result.0 script) }
     ensures all_out { OnOk result.1 (IsAllOut result.0) }
     ensures held { IfSome (S.script (last_epoch keeper.standing) (last_request keeper.standing) orders) (λ script. KeepsTo (then_seen (seen_at feeding.pace keeper.standing.epoch) script.orders) keeper result.0) }
     ensures seen { IfSome (S.script (last_epoch keeper.standing) (last_request keeper.standing) orders) (λ script. TellsSeen result.1 (seen_at feeding.pace keeper.standing.epoch) script.orders (H.seen host.old) (H.seen host.new)) }

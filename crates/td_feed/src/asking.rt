@@ -9,7 +9,7 @@
 //! A line and an open epoch have limits here, since a producer that closes neither would fill the memory. An epoch whose request
 //! number is on the disk already has no limit, since it is not put there again.
 ghost use Rattle.std.specs.Prelude.{◌≡◌, ◌==◌, ◌+◌, ◌<◌, ◌≤◌, ◌++◌, ◌∷◌, ℕ, List, [], Option, Some, None, true, false, length, option_map, OnOk, IfOk, IfErr, IfSome, IfNone, OnErr};
-ghost use Rattle.td_group.specs.Groups.{may_follow};
+ghost use Rattle.td_store.specs.group.Groups.{may_follow};
 ghost use Rattle.td_feed.specs.declared.order.Order.{Order as AnyOrder};
 ghost use Rattle.td_feed.specs.Orders.{is_between, submissions, notes_in};
 ghost use Rattle.td_feed.specs.declared.at_once.Asked.TheVariants.{One};
@@ -27,7 +27,7 @@ use td_console::{Fault, LineFault, Source};
 use td_journal::Submitted;
 use td_keeper::Group;
 use td_plan::Plan;
-use td_standing::KeeperError;
+use td_store::standing::KeeperError;
 
 /// How many lines one order may take.
 const LINES: u64 = 1 << 32;

@@ -5,7 +5,7 @@
 //! was acknowledged.
 ghost use Rattle.std.specs.Prelude.{◌≡◌, ◌≤◌, ℕ, [], ◌∷◌, Some, true, IfSome, IfNone, IsTrue, length};
 ghost use Rattle.td_journal.specs.Numbers.{may_come};
-ghost use Rattle.td_standing.specs.Standing.{last_epoch, last_request};
+ghost use Rattle.td_store.specs.standing.Standing.{last_epoch, last_request};
 ghost use Rattle.td_feed.specs.declared.order.Order.{Order as AnyOrder};
 ghost use Rattle.td_feed.specs.Orders.{submissions, notes_in};
 ghost use Rattle.td_feed.specs.Asked.{HaveNoPlace, IsNext};

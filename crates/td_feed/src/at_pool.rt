@@ -10,7 +10,7 @@ use td_keeper::{Command, Keeper, Obey, Reply};
 use td_pool::Crew;
 use td_questions::{Entries, Wanted};
 use td_stamp::EpochOut;
-use td_standing::KeeperError;
+use td_store::standing::KeeperError;
 
 /// A keeper, and the pool whose hall its workers' tasks are of. What is done with that hall is done under one hold of the pool's lock.
 #[derive(Drop)]

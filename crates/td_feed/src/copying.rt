@@ -2,8 +2,8 @@
 //!
 //! What the keeper stands for is in memory, so the stream's own disk is not read for it, and no fault of a copy is one of the stream.
 ghost use Rattle.std.specs.Prelude.{◌≡◌, ◌⊎◌, ◌+◌, ◌^◌, ◌<◌, Bool, false, [], ◌∷◌, length, None, IfOk, OnErr, IfErr};
-ghost use Rattle.td_standing.specs.Standing.{last_epoch};
-ghost use Rattle.td_standing.specs.Tells.{Keeps, first_head};
+ghost use Rattle.td_store.specs.standing.Standing.{last_epoch};
+ghost use Rattle.td_store.specs.standing.Tells.{Keeps, first_head};
 ghost use Rattle.td_feed.specs.Copied.{with_copies};
 ghost use Rattle.td_feed.specs.Noted.Aside.{to_copy};
 ghost use Rattle.td_feed.specs.Session.{FeedsCopying};
@@ -14,12 +14,12 @@ use crate::saying::{say_copied, say_not_copied};
 use std::alloc::Global;
 use td_calls::Law;
 use td_console::{Fault, Sink};
-use td_copy::laws::told_rises;
-use td_copy::{check_room, write_told};
 use td_disk::Disk;
 use td_keeper::Keeper;
 use td_keeper::laws::each_disk_holds;
-use td_standing::{Recovered, laws};
+use td_store::copy::laws::told_rises;
+use td_store::copy::{check_room, write_told};
+use td_store::standing::{Recovered, laws};
 
 /// Copies what a keeper stands for to a new disk, and writes `copied NEW E`, with the epoch up to which it goes, or `not copied NEW: WHAT`.
 /// Refusals: `Memory`, where there was no room for the line, and `Output`.
@@ -31,7 +31,7 @@ pub(crate) fn copy_aloud<D: Disk, L: Law, H: Host, W: Sink>(
     writer: &mut W,
 ) -> Result<(), Fault>
     requires whole { keeper.now.broken ≡ false }
-    ensures fed { (marks : Bool) → FeedsCopying D.is_lawful D.state D.failures L.answers marks H.New.is_lawful H.New.state result (W.contents writer.old) (W.contents writer.new)
+    ensures fed { (marks : Bool) → FeedsCopying D.view L.answers marks H.New.view result (W.contents writer.old) (W.contents writer.new)
         (H.copies host.old) (H.copies host.new) keeper.now keeper.now [] (to_copy copy.now.name copy.now.shape None ∷ []) }
     ensures seen { H.seen host.new ≡ H.seen host.old }
     ensures refusals { IfErr result (λ f. (f ≡ Fault.Output) ⊎ (f ≡ Fault.Memory)) }
@@ -54,7 +54,7 @@ fn copied<D: Disk, L: Law, H: Host>(
     // Whatever a crash leaves of the new disk tells what the keeper stands for.
     ensures copied { IfOk result (λ epoch. (epoch ≡ last_epoch keeper.now.standing) × ((disk : H.New)
         × (H.copies host.new ≡ with_copies (H.copies host.old) (record { name = copy.now.name; epoch = epoch; disk = disk } ∷ []))
-        × (D.is_lawful keeper.now.device → H.New.is_lawful disk → Keeps keeper.now.plan (first_head copy.now.shape) 0 keeper.now.standing (H.New.state disk)))) }
+        × ((D.view keeper.now.device).lawful → (H.New.view disk).lawful → Keeps keeper.now.plan (first_head copy.now.shape) 0 keeper.now.standing (H.New.view disk).state))) }
     ensures none { OnErr result (H.copies host.new ≡ H.copies host.old) }
     ensures seen { H.seen host.new ≡ H.seen host.old }
 {
@@ -79,7 +79,7 @@ fn copied<D: Disk, L: Law, H: Host>(
     }
 }
 
-/// Whether a copy has room for this. Refusal: why not, in the words of `td_copy`.
+/// Whether a copy has room for this. Refusal: why not, in the words of `td_store::copy`.
 fn check_copy(alloc: Global, copy: &CopyTo, told: &Recovered) -> Result<(), Why>
     requires small { told.now.checkpoint.epoch + length told.now.submitted.items < 2 ^ 63 }
 {

@@ -8,10 +8,10 @@ ghost use Rattle.std.specs.Result.{IsOk};
 ghost use Rattle.td_disk.specs.Disk.{IsDurable, Rises};
 ghost use Rattle.td_gate.specs.CrashSafe.{CrashSafe, Unchanged};
 ghost use Rattle.td_gate.specs.Reading.{Each};
-ghost use Rattle.td_standing.specs.Standing.{standing_from};
-ghost use Rattle.td_standing.specs.Read.{standing_of, Refused};
-ghost use Rattle.td_standing.specs.Told.{Told};
-ghost use Rattle.td_standing.specs.declared.error.KeeperError.TheVariants.{Device};
+ghost use Rattle.td_store.specs.standing.Standing.{standing_from};
+ghost use Rattle.td_store.specs.standing.Read.{standing_of, Refused};
+ghost use Rattle.td_store.specs.standing.Told.{Told};
+ghost use Rattle.td_store.specs.declared.standing.error.KeeperError.TheVariants.{Device};
 ghost use Rattle.td_feed.specs.Shown.{IsRefusedAs};
 ghost use Rattle.td_feed.specs.Dumped.{standing_words, room_words, summary_line, request_line, record_line, epoch_text, Dumps, WritesFront, FitsLine, FitsLines};
 
@@ -26,7 +26,7 @@ use td_journal::{Submitted, greatest_request};
 use td_plan::Plan;
 use td_slots::Checkpoint;
 use td_stamp::Entry;
-use td_standing::{Recovered, recover_device};
+use td_store::standing::{Recovered, recover_device};
 
 /// Lines are written where they have so many bytes.
 pub(crate) const PIECE: usize = 65_536;
@@ -49,16 +49,16 @@ pub fn dump<D: Disk, W: Sink>(
     plan: &Plan,
     writer: &mut W,
 ) -> Result<(), Fault>
-    ensures size { D.capacity disk.new ≡ D.capacity disk.old }
-    ensures lawful { D.is_lawful disk.old ↔ D.is_lawful disk.new }
-    ensures dumped { OnOk result (Dumps plan.now (W.contents writer.old) (W.contents writer.new) (D.is_lawful disk.old) (D.state disk.new)) }
+    ensures size { (D.view disk.new).capacity ≡ (D.view disk.old).capacity }
+    ensures lawful { (D.view disk.old).lawful ↔ (D.view disk.new).lawful }
+    ensures dumped { OnOk result (Dumps plan.now (W.contents writer.old) (W.contents writer.new) (D.view disk.old).lawful (D.view disk.new).state) }
     ensures refused { IfErr result (λ f. (f ≡ Fault.Output) ⊎ ((f ≡ Fault.Memory)
-        ⊎ (((f ≡ Fault.Keeper Device) × Rises (D.failures disk.old) (D.failures disk.new))
-        ⊎ IsRefusedAs f (λ e. D.is_lawful disk.old → IsDurable (D.state disk.new) × Told plan.now (D.state disk.new).bytes (Refused e))))) }
+        ⊎ (((f ≡ Fault.Keeper Device) × Rises (D.view disk.old).failures (D.view disk.new).failures)
+        ⊎ IsRefusedAs f (λ e. (D.view disk.old).lawful → IsDurable (D.view disk.new).state × Told plan.now (D.view disk.new).state.bytes (Refused e))))) }
     // Writers that have room for any text at any time do not fail.
     ensures room { ((w : W) (n : ℕ) → W.HasRoom w n) → IfErr result (λ f. f ≢ Fault.Output) }
     ensures nothing { IfErr result (λ f. (f ≡ Fault.Output) ⊎ (writer.new ≡ writer.old)) }
-    ensures crash_safe { D.is_lawful disk.old → CrashSafe Unchanged (D.state disk.old) (D.state disk.new) }
+    ensures crash_safe { (D.view disk.old).lawful → CrashSafe Unchanged (D.view disk.old).state (D.view disk.new).state }
 {
     dumps_are_fed();
     let _vertices = plan.vertices();

@@ -7,9 +7,9 @@ ghost use Rattle.std.specs.Result.{IsOk};
 ghost use Rattle.td_disk.specs.Disk.{IsDurable, Rises};
 ghost use Rattle.td_gate.specs.CrashSafe.{CrashSafe, Unchanged};
 ghost use Rattle.td_gate.specs.Reading.{Each};
-ghost use Rattle.td_standing.specs.Read.{Refused};
-ghost use Rattle.td_standing.specs.Told.{Told};
-ghost use Rattle.td_standing.specs.declared.error.KeeperError.TheVariants.{Device};
+ghost use Rattle.td_store.specs.standing.Read.{Refused};
+ghost use Rattle.td_store.specs.standing.Told.{Told};
+ghost use Rattle.td_store.specs.declared.standing.error.KeeperError.TheVariants.{Device};
 ghost use Rattle.td_feed.specs.Shown.{IsRefusedAs};
 ghost use Rattle.td_feed.specs.Dumped.{place_line, epoch_text, placed_text, DumpsPlaced, WritesFront, FitsLines};
 
@@ -21,7 +21,7 @@ use td_console::{Fault, Sink, write_answer};
 use td_disk::Disk;
 use td_journal::Submitted;
 use td_plan::Plan;
-use td_standing::recover_device;
+use td_store::standing::recover_device;
 
 /// Does what `dump` does, with a line `at E` before the lines of each epoch E. Refusals: as those of `dump`.
 pub fn dump_placed<D: Disk, W: Sink>(
@@ -30,16 +30,16 @@ pub fn dump_placed<D: Disk, W: Sink>(
     plan: &Plan,
     writer: &mut W,
 ) -> Result<(), Fault>
-    ensures size { D.capacity disk.new ≡ D.capacity disk.old }
-    ensures lawful { D.is_lawful disk.old ↔ D.is_lawful disk.new }
-    ensures dumped { OnOk result (DumpsPlaced plan.now (W.contents writer.old) (W.contents writer.new) (D.is_lawful disk.old) (D.state disk.new)) }
+    ensures size { (D.view disk.new).capacity ≡ (D.view disk.old).capacity }
+    ensures lawful { (D.view disk.old).lawful ↔ (D.view disk.new).lawful }
+    ensures dumped { OnOk result (DumpsPlaced plan.now (W.contents writer.old) (W.contents writer.new) (D.view disk.old).lawful (D.view disk.new).state) }
     ensures refused { IfErr result (λ f. (f ≡ Fault.Output) ⊎ ((f ≡ Fault.Memory)
-        ⊎ (((f ≡ Fault.Keeper Device) × Rises (D.failures disk.old) (D.failures disk.new))
-        ⊎ IsRefusedAs f (λ e. D.is_lawful disk.old → IsDurable (D.state disk.new) × Told plan.now (D.state disk.new).bytes (Refused e))))) }
+        ⊎ (((f ≡ Fault.Keeper Device) × Rises (D.view disk.old).failures (D.view disk.new).failures)
+        ⊎ IsRefusedAs f (λ e. (D.view disk.old).lawful → IsDurable (D.view disk.new).state × Told plan.now (D.view disk.new).state.bytes (Refused e))))) }
     // Writers that have room for any text at any time do not fail.
     ensures room { ((w : W) (n : ℕ) → W.HasRoom w n) → IfErr result (λ f. f ≢ Fault.Output) }
     ensures nothing { IfErr result (λ f. (f ≡ Fault.Output) ⊎ (writer.new ≡ writer.old)) }
-    ensures crash_safe { D.is_lawful disk.old → CrashSafe Unchanged (D.state disk.old) (D.state disk.new) }
+    ensures crash_safe { (D.view disk.old).lawful → CrashSafe Unchanged (D.view disk.old).state (D.view disk.new).state }
 {
     placed_dumps_bring_on();
     let _vertices = plan.vertices();

@@ -2,7 +2,7 @@
 ghost use Rattle.std.specs.Prelude.{◌≡◌, ◌≤◌, false, None, OnOk, IfOk, IfErr, IfSome, IsErr, IsErrOf, Ok, Err};
 ghost use Rattle.td_plan.specs.Blocks.{vertices};
 ghost use Rattle.td_calls.specs.Fits.{first_lack};
-ghost use Rattle.td_standing.specs.declared.error.KeeperError.TheVariants.{Device};
+ghost use Rattle.td_store.specs.declared.standing.error.KeeperError.TheVariants.{Device};
 ghost use Rattle.td_console.specs.Answer.{lack_fault};
 ghost use Rattle.td_feed.specs.Orders.{orders_of, submitted_by};
 ghost use Rattle.td_feed.specs.Carried.{new_to};
@@ -28,7 +28,7 @@ use td_disk::Disk;
 use td_keeper::Keeper;
 use td_keeper::laws::each_is_kept;
 use td_plan::Plan;
-use td_standing::laws;
+use td_store::standing::laws;
 
 /// What `Session::feed` does.
 pub(crate) fn feed<
@@ -50,7 +50,7 @@ pub(crate) fn feed<
 ) -> (D, Result<(), Fault>)
     requires some { 1 ≤ workers }
     requires most { workers ≤ 16 }
-    ensures disk { KeepsDisk D.capacity D.is_lawful D.failures result.1 disk result.0 }
+    ensures disk { KeepsDisk D.view result.1 disk result.0 }
 
     // A missing closure comes first: nothing was read or written.
     ensures lack { IfSome (first_lack (C.has_map calls.now) (C.has_group calls.now) (C.has_fold calls.now) (vertices plan.now)) (λ lack.
@@ -60,7 +60,7 @@ pub(crate) fn feed<
     // An input with a fault answers an error, with nothing written to the writer; and what it asks for is fed.
     ensures fault { IfSome (I.remaining reader.old) (λ input. IfErr (orders_of plan.now input) (λ _. IsErr result.1 × (writer.new ≡ writer.old))) }
     ensures fed { first_lack (C.has_map calls.now) (C.has_group calls.now) (C.has_fold calls.now) (vertices plan.now) ≡ None
-        → IfSome (I.remaining reader.old) (λ input. FeedsDisk D.is_lawful D.state D.failures L.answers W.marks result.1 plan.now false disk result.0
+        → IfSome (I.remaining reader.old) (λ input. FeedsDisk D.view L.answers W.marks result.1 plan.now false disk result.0
         (W.contents writer.old) (W.contents writer.new) (epochs_alone (submitted_by (orders_of plan.now input)))) }
 {
     laws::told_in_parts();
@@ -98,9 +98,9 @@ fn obey<
     requires some { 1 ≤ workers }
     requires most { workers ≤ 16 }
     requires whole { keeper.broken ≡ false }
-    ensures disk { KeepsDisk D.capacity D.is_lawful D.failures result.1 keeper.device result.0.device }
+    ensures disk { KeepsDisk D.view result.1 keeper.device result.0.device }
     ensures fault { IfSome (I.remaining reader.old) (λ input. IfErr (orders_of plan.now input) (λ _. IsErr result.1 × (writer.new ≡ writer.old))) }
-    ensures fed { IfSome (I.remaining reader.old) (λ input. Feeds D.is_lawful D.state D.failures L.answers W.marks result.1 (W.contents writer.old) (W.contents writer.new) keeper result.0 (new_to keeper (submitted_by (orders_of plan.now input)))) }
+    ensures fed { IfSome (I.remaining reader.old) (λ input. Feeds D.view L.answers W.marks result.1 (W.contents writer.old) (W.contents writer.new) keeper result.0 (new_to keeper (submitted_by (orders_of plan.now input)))) }
 {
     match prepared(alloc, &keeper, plan, workers, reader) {
         Ok((orders, hall)) => {

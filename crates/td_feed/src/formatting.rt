@@ -2,16 +2,16 @@
 ghost use Rattle.std.specs.Prelude.{◌≡◌, ◌⊎◌, ◌↔◌, ◌≤◌, true, false, IfOk, IfErr, OnOk};
 ghost use Rattle.td_disk.specs.Disk.{Rises};
 ghost use Rattle.td_head.specs.Layout.{size_of, is_shape};
-ghost use Rattle.td_standing.specs.Standing.{nothing_told};
-ghost use Rattle.td_standing.specs.Tells.{Keeps, first_head};
-ghost use Rattle.td_standing.specs.declared.error.KeeperError.TheVariants.{Device};
+ghost use Rattle.td_store.specs.standing.Standing.{nothing_told};
+ghost use Rattle.td_store.specs.standing.Tells.{Keeps, first_head};
+ghost use Rattle.td_store.specs.declared.standing.error.KeeperError.TheVariants.{Device};
 
 use std::alloc::Global;
 use td_console::Fault;
 use td_disk::Disk;
 use td_head::Shape;
 use td_plan::Plan;
-use td_standing::format_device;
+use td_store::standing::format_device;
 
 /// The shape of a disk: `m` records a cell, `n` cells, and `k` states a slot. Refusal: `Shape`, where one of them is out of
 /// its limits.
@@ -25,12 +25,12 @@ pub fn shape_of(m: u32, n: u32, k: u32) -> Result<Shape, Fault>
 /// Formats a disk for a plan: all that stood on it is gone, and it tells no epochs. Refusals: `Shape`, where the disk has
 /// fewer bytes than the shape takes, with nothing written; `Memory`; and `Device` of the keeper's.
 pub fn format<D: Disk>(alloc: Global, disk: &mut D, plan: &Plan, shape: Shape) -> Result<(), Fault>
-    ensures size { D.capacity disk.new ≡ D.capacity disk.old }
-    ensures lawful { D.is_lawful disk.old ↔ D.is_lawful disk.new }
-    ensures fits { OnOk result (size_of shape ≤ D.capacity disk.old) }
-    ensures formatted { OnOk result (D.is_lawful disk.old → Keeps plan.now (first_head shape) 0 nothing_told (D.state disk.new)) }
-    ensures refused { IfErr result (λ f. ((f ≡ Fault.Shape) × (size_of shape ≤ D.capacity disk.old → ⊥) × (disk.new ≡ disk.old))
-        ⊎ ((f ≡ Fault.Memory) ⊎ ((f ≡ Fault.Keeper Device) × Rises (D.failures disk.old) (D.failures disk.new)))) }
+    ensures size { (D.view disk.new).capacity ≡ (D.view disk.old).capacity }
+    ensures lawful { (D.view disk.old).lawful ↔ (D.view disk.new).lawful }
+    ensures fits { OnOk result (size_of shape ≤ (D.view disk.old).capacity) }
+    ensures formatted { OnOk result ((D.view disk.old).lawful → Keeps plan.now (first_head shape) 0 nothing_told (D.view disk.new).state) }
+    ensures refused { IfErr result (λ f. ((f ≡ Fault.Shape) × (size_of shape ≤ (D.view disk.old).capacity → ⊥) × (disk.new ≡ disk.old))
+        ⊎ ((f ≡ Fault.Memory) ⊎ ((f ≡ Fault.Keeper Device) × Rises (D.view disk.old).failures (D.view disk.new).failures))) }
 {
     if disk.size() < shape.bytes() {
         return Err(Fault::Shape);

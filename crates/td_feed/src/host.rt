@@ -9,8 +9,8 @@ use crate::file_name::FileName;
 use crate::order::CopyTo;
 use std::alloc::{AllocError, AllocFailed, Global};
 use std::fmt;
-use td_copy::CopyError;
 use td_disk::{Disk, MemoryDisk};
+use td_store::copy::CopyError;
 
 /// Why a copy was not made.
 #[derive(Debug, Drop)]

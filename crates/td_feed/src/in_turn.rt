@@ -1,8 +1,8 @@
 //! What is asked for, in turn.
 ghost use Rattle.std.specs.Prelude.{◌≡◌, ℕ, true, false, Ok, Err, IfOk, IfErr, IfSome, OnOk, ◌⊎◌};
 ghost use Rattle.td_pool.specs.declared.error.PoolError.{PoolError as AnyPoolError};
-ghost use Rattle.td_standing.specs.declared.error.KeeperError.TheVariants.{NotPassed};
-ghost use Rattle.td_standing.specs.Standing.{last_epoch, last_request};
+ghost use Rattle.td_store.specs.declared.standing.error.KeeperError.TheVariants.{NotPassed};
+ghost use Rattle.td_store.specs.standing.Standing.{last_epoch, last_request};
 ghost use Rattle.td_feed.specs.Asked.{is_of_reader};
 ghost use Rattle.td_feed.specs.Fed.{pool_fault};
 ghost use Rattle.td_feed.specs.Held.{KeepsTo, TellsSeen, seen_at, then_seen, seen_with, told_seen};
@@ -23,7 +23,7 @@ use td_core::HallError;
 use td_disk::Disk;
 use td_keeper::{Keeper, Obey};
 use td_pool::PoolError;
-use td_standing::KeeperError;
+use td_store::standing::KeeperError;
 
 /// Does what is asked for in turn, at the feeding's pace, and settles. Refusals: `Memory`, before anything else, where a worker was
 /// refused a thread; those of what asks for the orders, of the keeper and of the writer.
@@ -38,8 +38,8 @@ pub(crate) fn obey_each<D: Disk, S: Asking, W: Voice, H: Host, L: Law, R: Wait, 
     host: &mut H,
 ) -> Result<(), Fault>
     requires whole { (E.keeping engine.old).broken ≡ false }
-    ensures disk { KeepsDisk D.capacity D.is_lawful D.failures result (E.keeping engine.old).device (E.keeping engine.new).device }
-    ensures fed { IfSome (S.script (last_epoch (E.keeping engine.old).standing) (last_request (E.keeping engine.old).standing) orders.old) (λ script. FeedsScript D.is_lawful D.state D.failures L.answers W.marks H.New.is_lawful H.New.state result (W.contents writer.old) (W.contents writer.new) (H.copies host.old) (H.copies host.new) (E.keeping engine.old) (E.keeping engine.new) script) }
+    ensures disk { KeepsDisk D.view result (E.keeping engine.old).device (E.keeping engine.new).device }
+    ensures fed { IfSome (S.script (last_epoch (E.keeping engine.old).standing) (last_request (E.keeping engine.old).standing) orders.old) (λ script. FeedsScript D.view L.answers W.marks H.New.view result (W.contents writer.old) (W.contents writer.new) (H.copies host.old) (H.copies host.new) (E.keeping engine.old) (E.keeping engine.new) script) }
     ensures all_out { E.alone ≡ true → OnOk result (IsAllOut (E.keeping engine.new)) }
 
     // Where outputs are held, nothing is kept beyond what the script says was seen.

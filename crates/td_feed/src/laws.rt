@@ -8,10 +8,10 @@ ghost use Rattle.td_plan.specs.Faults.{IsPlan};
 ghost use Rattle.td_head.specs.declared.head.Head.{Head as AnyHead};
 ghost use Rattle.td_journal.specs.declared.submitted.Submitted.{Submitted as AnySubmitted};
 ghost use Rattle.td_journal.specs.Numbers.{greatest};
-ghost use Rattle.td_standing.specs.Standing.{Standing};
-ghost use Rattle.td_standing.specs.Stops.{Stands};
-ghost use Rattle.td_standing.specs.Tells.{Tells};
-ghost use Rattle.td_standing.specs.Read.{MayStand};
+ghost use Rattle.td_store.specs.standing.Standing.{Standing};
+ghost use Rattle.td_store.specs.standing.Stops.{Stands};
+ghost use Rattle.td_store.specs.standing.Tells.{Tells};
+ghost use Rattle.td_store.specs.standing.Read.{MayStand};
 ghost use Rattle.td_feed.specs.Orders.{orders_of, submitted_by, new_after};
 ghost use Rattle.td_feed.specs.declared.order.Order.{Order as AnyOrder};
 ghost use Rattle.td_feed.specs.Asked.{script_of};
@@ -43,7 +43,7 @@ pub fn dumps_are_fed()
 {
     td_journal::laws::batches_are_in_order();
     td_journal::laws::told_numbers_rise();
-    td_standing::laws::inputs_are_accepted();
+    td_store::standing::laws::inputs_are_accepted();
 }
 
 /// WHAT WAS DUMPED WITH PLACES BRINGS A DISK ON: one that stands for a beginning of the history for which the standing stands, which has the
@@ -57,7 +57,7 @@ pub fn placed_dumps_bring_on()
 {
     td_journal::laws::batches_are_in_order();
     td_journal::laws::told_numbers_rise();
-    td_standing::laws::inputs_are_accepted();
+    td_store::standing::laws::inputs_are_accepted();
 }
 
 /// What a stream reads of an input without a fault is what a feed reads of it. Where epochs have no places, what a stream reads is the
@@ -72,12 +72,12 @@ pub fn scripts()
 /// each epoch for which an `ack` line was written, and each that the keeper acknowledged beside.
 pub fn acknowledged_is_told<D: Disk, L: Law>()
     ensures { (marks : Bool) (result : AnyResult (Unit {0}) AnyFault) (plan : List Line) (alone : Bool) (disk left : D) (before after : Option (List ℕ)) (wanted : Wanted)
-        (from : SaysFrom D.is_lawful D.state D.failures L.answers marks result plan alone disk left before after wanted) → D.is_lawful disk
+        (from : SaysFrom D.view L.answers marks result plan alone disk left before after wanted) → (D.view disk).lawful
         → (commands : List AnyCommand) (replies : List AnyReply)
-        → Driven D.is_lawful D.state D.failures L.answers commands replies (record from.keeper { watch = from.watch }) from.ended
-        → (c : List ℕ) → (D.state left).images c → TellsAcknowledged plan replies c }
+        → Driven D.view L.answers commands replies (record from.keeper { watch = from.watch }) from.ended
+        → (c : List ℕ) → (D.view left).state.images c → TellsAcknowledged plan replies c }
 {
-    td_standing::laws::told_in_parts();
+    td_store::standing::laws::told_in_parts();
     td_keeper::laws::acknowledged_is_counted::<D, L>();
 }
 
@@ -85,14 +85,14 @@ pub fn acknowledged_is_told<D: Disk, L: Law>()
 /// a crash leaves tells that history and a beginning of what the keeper's commands submitted.
 pub fn moments_are_told<D: Disk, L: Law>()
     ensures { (marks : Bool) (result : AnyResult (Unit {0}) AnyFault) (plan : List Line) (alone : Bool) (disk left : D) (before after : Option (List ℕ)) (wanted : Wanted)
-        (from : SaysFrom D.is_lawful D.state D.failures L.answers marks result plan alone disk left before after wanted) → D.is_lawful disk
+        (from : SaysFrom D.view L.answers marks result plan alone disk left before after wanted) → (D.view disk).lawful
         → (commands : List AnyCommand) (replies : List AnyReply)
-        → Driven D.is_lawful D.state D.failures L.answers commands replies (record from.keeper { watch = from.watch }) from.ended
-        → (history : List AnySubmitted) → EachTellsHistory L.answers plan history (D.state disk)
-        → (c : List ℕ) → (D.state left).since (D.state disk).moment c → TellsOnward L.answers plan history (submitted_in commands replies) c }
+        → Driven D.view L.answers commands replies (record from.keeper { watch = from.watch }) from.ended
+        → (history : List AnySubmitted) → EachTellsHistory L.answers plan history (D.view disk).state
+        → (c : List ℕ) → (D.view left).state.since (D.view disk).state.moment c → TellsOnward L.answers plan history (submitted_in commands replies) c }
 {
-    td_standing::laws::told_in_parts();
-    td_standing::laws::advance_stands::<L>();
+    td_store::standing::laws::told_in_parts();
+    td_store::standing::laws::advance_stands::<L>();
     td_keeper::laws::driven_advances::<D, L>();
 }
 
@@ -100,12 +100,12 @@ pub fn moments_are_told<D: Disk, L: Law>()
 /// question: of the last epoch of these, and by their states in the batch meaning.
 pub fn answers_are_meant<D: Disk, L: Law>()
     ensures { (marks : Bool) (result : AnyResult (Unit {0}) AnyFault) (plan : List Line) (alone : Bool) (disk left : D) (before after : Option (List ℕ)) (wanted : Wanted)
-        (from : SaysFrom D.is_lawful D.state D.failures L.answers marks result plan alone disk left before after wanted) → D.is_lawful disk
+        (from : SaysFrom D.view L.answers marks result plan alone disk left before after wanted) → (D.view disk).lawful
         → (commands : List AnyCommand) (replies : List AnyReply)
-        → Driven D.is_lawful D.state D.failures L.answers commands replies (record from.keeper { watch = from.watch }) from.ended
-        → (history : List AnySubmitted) → EachTellsHistory L.answers plan history (D.state disk)
+        → Driven D.view L.answers commands replies (record from.keeper { watch = from.watch }) from.ended
+        → (history : List AnySubmitted) → EachTellsHistory L.answers plan history (D.view disk).state
         → AllOfHistory L.answers plan history commands replies }
 {
-    td_standing::laws::told_in_parts();
+    td_store::standing::laws::told_in_parts();
     td_keeper::laws::driven_answers::<D, L>();
 }

@@ -88,7 +88,7 @@ impl<'a, L: Law + Send + Sync, C: Closures<L> + Sync, R: Threads + Wait + Sync> 
         reader: &mut I,
         writer: &mut W,
     ) -> (D, Result<(), Fault>)
-        ensures disk { KeepsDisk D.capacity D.is_lawful D.failures result.1 disk result.0 }
+        ensures disk { KeepsDisk D.view result.1 disk result.0 }
 
         // A missing closure comes first: nothing was read or written.
         ensures lack { IfSome (lack_of C.has_map C.has_group C.has_fold self.now) (λ lack.
@@ -98,7 +98,7 @@ impl<'a, L: Law + Send + Sync, C: Closures<L> + Sync, R: Threads + Wait + Sync> 
         // An input with a fault answers an error, with nothing written to the writer; and what it asks for is fed.
         ensures fault { IfSome (I.remaining reader.old) (λ input. IfErr (orders_of self.now.plan input) (λ _. IsErr result.1 × (writer.new ≡ writer.old))) }
         ensures fed { lack_of C.has_map C.has_group C.has_fold self.now ≡ None → IfSome (I.remaining reader.old) (λ input.
-            FeedsDisk D.is_lawful D.state D.failures L.answers W.marks result.1 self.now.plan false disk result.0 (W.contents writer.old) (W.contents writer.new) (epochs_alone (submitted_by (orders_of self.now.plan input)))) }
+            FeedsDisk D.view L.answers W.marks result.1 self.now.plan false disk result.0 (W.contents writer.old) (W.contents writer.new) (epochs_alone (submitted_by (orders_of self.now.plan input)))) }
     {
         feed(
             self.rt,
@@ -159,15 +159,15 @@ impl<'a, L: Law + Send + Sync, C: Closures<L> + Sync, R: Threads + Wait + Sync> 
         host: &mut H,
     ) -> (D, Result<(), Fault>)
         requires unpublished { IfSome watch (λ w. w.words ≡ 0 ∷ 0 ∷ 0 ∷ []) }
-        ensures disk { KeepsDisk D.capacity D.is_lawful D.failures result.1 disk result.0 }
+        ensures disk { KeepsDisk D.view result.1 disk result.0 }
 
         // A missing closure comes first: nothing was written.
         ensures lack { IfSome (lack_of C.has_map C.has_group C.has_fold self.now) (λ lack. (result.1 ≡ Err (lack_fault lack)) × (result.0 ≡ disk) × (writer.new ≡ writer.old) × (host.new ≡ host.old)) }
         ensures fits { OnOk result.1 (lack_of C.has_map C.has_group C.has_fold self.now ≡ None) }
 
         // What the input asks for is fed, by one worker until all outputs went out; and the host is told what was seen.
-        ensures fed { lack_of C.has_map C.has_group C.has_fold self.now ≡ None → IfSome (I.remaining reader) (λ input. StreamsCopying D.is_lawful D.state D.failures L.answers W.marks H.New.is_lawful H.New.state options.placing options.refuse options.hold options.questions options.copies result.1 self.now.plan (self.now.workers == 1) disk result.0 (W.contents writer.old) (W.contents writer.new) (H.copies host.old) (H.copies host.new) input) }
-        ensures seen { lack_of C.has_map C.has_group C.has_fold self.now ≡ None → IfSome (I.remaining reader) (λ input. SeesOrNot D.is_lawful D.state options.placing options.refuse options.hold options.questions options.copies result.1 self.now.plan disk (H.seen host.old) (H.seen host.new) input) }
+        ensures fed { lack_of C.has_map C.has_group C.has_fold self.now ≡ None → IfSome (I.remaining reader) (λ input. StreamsCopying D.view L.answers W.marks H.New.view options result.1 self.now.plan (self.now.workers == 1) disk result.0 (W.contents writer.old) (W.contents writer.new) (H.copies host.old) (H.copies host.new) input) }
+        ensures seen { lack_of C.has_map C.has_group C.has_fold self.now ≡ None → IfSome (I.remaining reader) (λ input. SeesOrNot D.view options result.1 self.now.plan disk (H.seen host.old) (H.seen host.new) input) }
     {
         stream(
             self.rt,

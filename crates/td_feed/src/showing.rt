@@ -4,10 +4,10 @@
 ghost use Rattle.std.specs.Prelude.{◌≡◌, ◌≢◌, ◌⊎◌, ◌↔◌, ◌++◌, ◌+◌, ◌<◌, ◌^◌, ℕ, Ok, length, string_bytes, IfOk, IfErr, OnOk};
 ghost use Rattle.td_disk.specs.Disk.{IsDurable, Rises};
 ghost use Rattle.td_gate.specs.CrashSafe.{CrashSafe, Unchanged};
-ghost use Rattle.td_standing.specs.Standing.{Standing};
-ghost use Rattle.td_standing.specs.Read.{Refused};
-ghost use Rattle.td_standing.specs.Told.{Told};
-ghost use Rattle.td_standing.specs.declared.error.KeeperError.TheVariants.{Device};
+ghost use Rattle.td_store.specs.standing.Standing.{Standing};
+ghost use Rattle.td_store.specs.standing.Read.{Refused};
+ghost use Rattle.td_store.specs.standing.Told.{Told};
+ghost use Rattle.td_store.specs.declared.standing.error.KeeperError.TheVariants.{Device};
 ghost use Rattle.td_feed.specs.Shown.{counted_lines, counted_head, last_line, state_line, state_lines, count_line, count_lines};
 ghost use Rattle.td_feed.specs.Session.{KeepsDisk};
 ghost use Rattle.td_feed.specs.Shown.{ShowsTold, IsRefusedAs};
@@ -21,7 +21,7 @@ use td_journal::{Counts, greatest_counted};
 use td_plan::Plan;
 use td_slots::Checkpoint;
 use td_stamp::{OrderedStates, State};
-use td_standing::{Counted, count_device, laws};
+use td_store::standing::{Counted, count_device, laws};
 
 /// Writes what a disk tells for a plan: `kept C`, the epoch of its checkpoint; `told T`, the last epoch on it; `last Q`, the
 /// greatest request number, where there is one; a line `state VERTEX KEY A B` for each state of the checkpoint in order; and
@@ -36,15 +36,15 @@ pub fn show<D: Disk, W: Sink>(
     plan: &Plan,
     writer: &mut W,
 ) -> Result<(), Fault>
-    ensures disk { KeepsDisk D.capacity D.is_lawful D.failures result disk.old disk.new }
+    ensures disk { KeepsDisk D.view result disk.old disk.new }
     ensures shown { OnOk result ((s : Standing) × ShowsTold (W.contents writer.old) (W.contents writer.new) s
-        × (D.is_lawful disk.old → IsDurable (D.state disk.new) × Told plan.now (D.state disk.new).bytes (Ok s))) }
+        × ((D.view disk.old).lawful → IsDurable (D.view disk.new).state × Told plan.now (D.view disk.new).state.bytes (Ok s))) }
     ensures refused { IfErr result (λ f. (f ≡ Fault.Output) ⊎ ((f ≡ Fault.Memory)
-        ⊎ (((f ≡ Fault.Keeper Device) × Rises (D.failures disk.old) (D.failures disk.new))
-        ⊎ IsRefusedAs f (λ e. D.is_lawful disk.old → IsDurable (D.state disk.new) × Told plan.now (D.state disk.new).bytes (Refused e))))) }
+        ⊎ (((f ≡ Fault.Keeper Device) × Rises (D.view disk.old).failures (D.view disk.new).failures)
+        ⊎ IsRefusedAs f (λ e. (D.view disk.old).lawful → IsDurable (D.view disk.new).state × Told plan.now (D.view disk.new).state.bytes (Refused e))))) }
     ensures room { ((n : ℕ) → W.HasRoom writer.old n) → IfErr result (λ f. f ≢ Fault.Output) }
     ensures nothing { IfErr result (λ f. (f ≡ Fault.Output) ⊎ (writer.new ≡ writer.old)) }
-    ensures crash_safe { D.is_lawful disk.old → CrashSafe Unchanged (D.state disk.old) (D.state disk.new) }
+    ensures crash_safe { (D.view disk.old).lawful → CrashSafe Unchanged (D.view disk.old).state (D.view disk.new).state }
 {
     laws::told_in_parts();
     let counted = count_device(alloc, disk, plan)?;

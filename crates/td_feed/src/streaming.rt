@@ -8,12 +8,11 @@ ghost use Rattle.td_plan.specs.Blocks.{vertices};
 ghost use Rattle.td_calls.specs.Fits.{first_lack};
 ghost use Rattle.td_watch.specs.View.{View};
 ghost use Rattle.td_console.specs.Answer.{lack_fault};
-ghost use Rattle.td_standing.specs.Standing.{last_epoch, last_request};
-ghost use Rattle.td_feed.specs.Asked.{script_of};
+ghost use Rattle.td_store.specs.standing.Standing.{last_epoch, last_request};
 ghost use Rattle.td_feed.specs.Placed.{placed};
 ghost use Rattle.td_feed.specs.Held.{KeepsTo, TellsSeen, first_seen, then_seen};
 ghost use Rattle.td_feed.specs.Said.{IsAllOut};
-ghost use Rattle.td_feed.specs.Session.{limit_of, KeepsDisk, FeedsScript, StreamsCopying, SeesOrNot};
+ghost use Rattle.td_feed.specs.Session.{limit_of, script_by, KeepsDisk, FeedsScript, StreamsCopying, SeesOrNot};
 
 use crate::alone::obey_alone;
 use crate::asking::Streamed;
@@ -32,7 +31,7 @@ use td_disk::Disk;
 use td_keeper::Keeper;
 use td_keeper::laws::{driven_keeps_to_its_base, each_is_kept, each_keeps_to_its_base};
 use td_plan::Plan;
-use td_standing::laws;
+use td_store::standing::laws;
 use td_watch::Writer;
 
 /// How a stream goes about its input.
@@ -79,7 +78,7 @@ pub(crate) fn stream<
     requires some { 1 ≤ workers }
     requires most { workers ≤ 16 }
     requires unpublished { IfSome watch (λ w. w.words ≡ 0 ∷ 0 ∷ 0 ∷ []) }
-    ensures disk { KeepsDisk D.capacity D.is_lawful D.failures result.1 disk result.0 }
+    ensures disk { KeepsDisk D.view result.1 disk result.0 }
 
     // A missing closure comes first: nothing was written.
     ensures lack { IfSome (first_lack (C.has_map calls.now) (C.has_group calls.now) (C.has_fold calls.now) (vertices plan.now)) (λ lack.
@@ -88,12 +87,12 @@ pub(crate) fn stream<
 
     // What the input asks for is fed, by one worker until all outputs went out.
     ensures fed { first_lack (C.has_map calls.now) (C.has_group calls.now) (C.has_fold calls.now) (vertices plan.now) ≡ None
-        → IfSome (I.remaining reader) (λ input. StreamsCopying D.is_lawful D.state D.failures L.answers W.marks H.New.is_lawful H.New.state options.placing options.refuse options.hold options.questions options.copies result.1 plan.now (workers == 1) disk result.0
+        → IfSome (I.remaining reader) (λ input. StreamsCopying D.view L.answers W.marks H.New.view options result.1 plan.now (workers == 1) disk result.0
         (W.contents writer.old) (W.contents writer.new) (H.copies host.old) (H.copies host.new) input) }
 
     // And the host is told what was seen.
     ensures seen { first_lack (C.has_map calls.now) (C.has_group calls.now) (C.has_fold calls.now) (vertices plan.now) ≡ None
-        → IfSome (I.remaining reader) (λ input. SeesOrNot D.is_lawful D.state options.placing options.refuse options.hold options.questions options.copies result.1 plan.now disk (H.seen host.old) (H.seen host.new) input) }
+        → IfSome (I.remaining reader) (λ input. SeesOrNot D.view options result.1 plan.now disk (H.seen host.old) (H.seen host.new) input) }
 {
     laws::told_in_parts();
     driven_keeps_to_its_base::<D, L>();
@@ -168,14 +167,14 @@ fn obey<
     requires whole { keeper.broken ≡ false }
     requires fits { first_lack (C.has_map calls.now) (C.has_group calls.now) (C.has_fold calls.now) (vertices keeper.plan) ≡ None }
     requires collected { keeper.collected ≡ keeper.base }
-    ensures disk { KeepsDisk D.capacity D.is_lawful D.failures result.1 keeper.device result.0.device }
-    ensures fed { IfSome (I.remaining reader) (λ input. FeedsScript D.is_lawful D.state D.failures L.answers W.marks H.New.is_lawful H.New.state result.1 (W.contents writer.old) (W.contents writer.new) (H.copies host.old) (H.copies host.new) keeper result.0
-        (placed options.refuse (last_epoch keeper.standing) (last_request keeper.standing) (script_of options.placing options.hold options.questions options.copies (limit_of options.refuse keeper.head.shape.m) plan.now input))) }
+    ensures disk { KeepsDisk D.view result.1 keeper.device result.0.device }
+    ensures fed { IfSome (I.remaining reader) (λ input. FeedsScript D.view L.answers W.marks H.New.view result.1 (W.contents writer.old) (W.contents writer.new) (H.copies host.old) (H.copies host.new) keeper result.0
+        (placed options.refuse (last_epoch keeper.standing) (last_request keeper.standing) (script_by options keeper.head.shape.m plan.now input))) }
     ensures all_out { workers ≡ 1 → OnOk result.1 (IsAllOut result.0) }
     ensures held { IfSome (I.remaining reader) (λ input. KeepsTo (then_seen (first_seen options.hold keeper.standing.epoch)
-        (placed options.refuse (last_epoch keeper.standing) (last_request keeper.standing) (script_of options.placing options.hold options.questions options.copies (limit_of options.refuse keeper.head.shape.m) plan.now input)).orders) keeper result.0) }
+        (placed options.refuse (last_epoch keeper.standing) (last_request keeper.standing) (script_by options keeper.head.shape.m plan.now input)).orders) keeper result.0) }
     ensures seen { IfSome (I.remaining reader) (λ input. TellsSeen result.1 (first_seen options.hold keeper.standing.epoch)
-        (placed options.refuse (last_epoch keeper.standing) (last_request keeper.standing) (script_of options.placing options.hold options.questions options.copies (limit_of options.refuse keeper.head.shape.m) plan.now input)).orders (H.seen host.old) (H.seen host.new)) }
+        (placed options.refuse (last_epoch keeper.standing) (last_request keeper.standing) (script_by options keeper.head.shape.m plan.now input)).orders (H.seen host.old) (H.seen host.new)) }
 {
     let feeding = Feeding::new(
         &keeper,

@@ -19,7 +19,7 @@ use td_disk::Disk;
 use td_keeper::laws::others_rest;
 use td_keeper::{Command, GroupError, Obey, Reply, tell_one};
 use td_questions::Wanted;
-use td_standing::laws;
+use td_store::standing::laws;
 
 /// Tells a keeper at work one command, and answers its reply. Refusals: the keeper's.
 pub(crate) fn tell<D: Disk, L: Law, R, E: Obey<D, L, R>>(
@@ -29,10 +29,10 @@ pub(crate) fn tell<D: Disk, L: Law, R, E: Obey<D, L, R>>(
 ) -> Result<Reply, Fault>
     requires whole { (E.keeping engine.old).broken ≡ false }
     requires rising { IsRising (E.keeping engine.old) command }
-    ensures disk { KeepsDisk D.capacity D.is_lawful D.failures result (E.keeping engine.old).device (E.keeping engine.new).device }
-    ensures obeyed { IfOk result (λ reply. IsObeyed D.is_lawful D.state D.failures L.answers command reply (E.keeping engine.old) (E.keeping engine.new)) }
+    ensures disk { KeepsDisk D.view result (E.keeping engine.old).device (E.keeping engine.new).device }
+    ensures obeyed { IfOk result (λ reply. IsObeyed D.view L.answers command reply (E.keeping engine.old) (E.keeping engine.new)) }
     ensures own { E.alone ≡ true → IfOk result (λ reply. ComesOf command reply (E.keeping engine.old) (E.hall engine.old) (E.keeping engine.new) (E.hall engine.new)) }
-    ensures refused { OnErr result (IsNotObeyed D.is_lawful D.state D.failures L.answers command (E.keeping engine.old) (E.keeping engine.new)) }
+    ensures refused { OnErr result (IsNotObeyed D.view L.answers command (E.keeping engine.old) (E.keeping engine.new)) }
     ensures rests { is_resting command ≡ true → Carries L.answers (E.keeping engine.old) (E.keeping engine.new) [] }
     ensures base { MovesBase command (E.keeping engine.old) (E.keeping engine.new) }
 {
@@ -53,9 +53,9 @@ pub(crate) fn tell_aloud<D: Disk, L: Law, R, E: Obey<D, L, R>, W: Voice>(
 ) -> Result<(), Fault>
     requires whole { (E.keeping engine.old).broken ≡ false }
     requires rising { IsRising (E.keeping engine.old) command }
-    ensures disk { KeepsDisk D.capacity D.is_lawful D.failures result (E.keeping engine.old).device (E.keeping engine.new).device }
-    ensures fed { Feeds D.is_lawful D.state D.failures L.answers W.marks result (W.contents writer.old) (W.contents writer.new) (E.keeping engine.old) (E.keeping engine.new) (new_to (E.keeping engine.old) (batch_in command)) }
-    ensures obeyed { OnOk result ((reply : AnyReply) × Obeys D.is_lawful D.state D.failures L.answers command reply (E.keeping engine.old) (E.keeping engine.new) × (is_refused reply ≡ false)) }
+    ensures disk { KeepsDisk D.view result (E.keeping engine.old).device (E.keeping engine.new).device }
+    ensures fed { Feeds D.view L.answers W.marks result (W.contents writer.old) (W.contents writer.new) (E.keeping engine.old) (E.keeping engine.new) (new_to (E.keeping engine.old) (batch_in command)) }
+    ensures obeyed { OnOk result ((reply : AnyReply) × Obeys D.view L.answers command reply (E.keeping engine.old) (E.keeping engine.new) × (is_refused reply ≡ false)) }
 
     ensures base { MovesBase command (E.keeping engine.old) (E.keeping engine.new) }
 
@@ -78,8 +78,8 @@ pub(crate) fn answer_aloud<D: Disk, L: Law, R, E: Obey<D, L, R>, W: Voice>(
     writer: &mut W,
 ) -> Result<(), Fault>
     requires whole { (E.keeping engine.old).broken ≡ false }
-    ensures disk { KeepsDisk D.capacity D.is_lawful D.failures result (E.keeping engine.old).device (E.keeping engine.new).device }
-    ensures fed { FeedsNoting D.is_lawful D.state D.failures L.answers W.marks result (W.contents writer.old) (W.contents writer.new) (E.keeping engine.old) (E.keeping engine.new) [] (to_answer vertex wanted ∷ []) }
+    ensures disk { KeepsDisk D.view result (E.keeping engine.old).device (E.keeping engine.new).device }
+    ensures fed { FeedsNoting D.view L.answers W.marks result (W.contents writer.old) (W.contents writer.new) (E.keeping engine.old) (E.keeping engine.new) [] (to_answer vertex wanted ∷ []) }
     ensures base { SameBase (E.keeping engine.old) (E.keeping engine.new) }
 {
     let reply = tell(rt, engine, Command::Answer(vertex, wanted))?;

@@ -4,11 +4,11 @@
 //! no line meanwhile, so outputs come before the next `ack`.
 ghost use Rattle.std.specs.Prelude.{◌≡◌, ◌⊎◌, ◌↔◌, ◌+◌, ◌^◌, ◌<◌, ◌≤◌, ℕ, List, Bool, Option, Some, [], ◌∷◌, true, false, IsTrue, IfOk, IfErr, IfSome, IfNone, OnOk, string_bytes};
 ghost use Rattle.std.specs.Io.KnownBytes.{Appends};
-ghost use Rattle.td_standing.specs.declared.error.KeeperError.TheVariants.{Epochs};
+ghost use Rattle.td_store.specs.declared.standing.error.KeeperError.TheVariants.{Epochs};
 ghost use Rattle.td_keeper.specs.declared.command.Command.TheVariants.{NextOut};
 ghost use Rattle.td_keeper.specs.declared.command.Reply.TheVariants.{Out};
 ghost use Rattle.td_keeper.specs.Driven.{Driven};
-ghost use Rattle.td_standing.specs.Standing.{last_request};
+ghost use Rattle.td_store.specs.standing.Standing.{last_request};
 ghost use Rattle.td_feed.specs.Asked.{asked_for, notes_for, MayFollow};
 ghost use Rattle.td_feed.specs.Fed.{hall_fault};
 ghost use Rattle.td_feed.specs.Held.{SameBase, KeepsTo, MovesBase, seen_at, cut_for};
@@ -35,7 +35,7 @@ use td_keeper::laws::each_at_work_is_kept;
 use td_keeper::{Command, Keeper, Obey};
 use td_plan::Plan;
 use td_stamp::{Batch, EPOCHS_END, EpochOut};
-use td_standing::KeeperError;
+use td_store::standing::KeeperError;
 
 /// Output lines are written where they have so many bytes.
 const PIECE: usize = 65_536;
@@ -155,8 +155,8 @@ impl Feeding {
     ) -> Result<(), Fault>
         requires whole { (E.keeping engine.old).broken ≡ false }
         requires rising { MayFollow (last_request (E.keeping engine.old).standing) (Some asked) }
-        ensures disk { KeepsDisk D.capacity D.is_lawful D.failures result (E.keeping engine.old).device (E.keeping engine.new).device }
-        ensures fed { FeedsCopying D.is_lawful D.state D.failures L.answers W.marks H.New.is_lawful H.New.state result (W.contents writer.old) (W.contents writer.new) (H.copies host.old) (H.copies host.new) (E.keeping engine.old) (E.keeping engine.new) (new_to (E.keeping engine.old) (asked_for asked)) (notes_for asked) }
+        ensures disk { KeepsDisk D.view result (E.keeping engine.old).device (E.keeping engine.new).device }
+        ensures fed { FeedsCopying D.view L.answers W.marks H.New.view result (W.contents writer.old) (W.contents writer.new) (H.copies host.old) (H.copies host.new) (E.keeping engine.old) (E.keeping engine.new) (new_to (E.keeping engine.old) (asked_for asked)) (notes_for asked) }
         ensures held { KeepsTo seen (E.keeping engine.old) (E.keeping engine.new) }
         ensures seen { H.seen host.new ≡ H.seen host.old }
     {
@@ -211,8 +211,8 @@ impl Feeding {
     ) -> Result<(), Fault>
         requires whole { (E.keeping engine.old).broken ≡ false }
         requires rising { IsRising (E.keeping engine.old) command }
-        ensures disk { KeepsDisk D.capacity D.is_lawful D.failures result (E.keeping engine.old).device (E.keeping engine.new).device }
-        ensures fed { Feeds D.is_lawful D.state D.failures L.answers W.marks result (W.contents writer.old) (W.contents writer.new) (E.keeping engine.old) (E.keeping engine.new) (new_to (E.keeping engine.old) (batch_in command)) }
+        ensures disk { KeepsDisk D.view result (E.keeping engine.old).device (E.keeping engine.new).device }
+        ensures fed { Feeds D.view L.answers W.marks result (W.contents writer.old) (W.contents writer.new) (E.keeping engine.old) (E.keeping engine.new) (new_to (E.keeping engine.old) (batch_in command)) }
 
         // Nothing is written but for a batch that is on the disk.
         ensures acknowledged { (writer.new ≡ writer.old) ⊎ Carries L.answers (E.keeping engine.old) (E.keeping engine.new) (new_to (E.keeping engine.old) (batch_in command)) }
@@ -246,10 +246,10 @@ impl Feeding {
         engine: &mut E,
     ) -> Result<(), Fault>
         requires whole { (E.keeping engine.old).broken ≡ false }
-        ensures disk { KeepsDisk D.capacity D.is_lawful D.failures result (E.keeping engine.old).device (E.keeping engine.new).device }
+        ensures disk { KeepsDisk D.view result (E.keeping engine.old).device (E.keeping engine.new).device }
 
         // Nothing is written, whatever the writer is.
-        ensures fed { (marks : Bool) (held : Option (List ℕ)) → Feeds D.is_lawful D.state D.failures L.answers marks result held held (E.keeping engine.old) (E.keeping engine.new) [] }
+        ensures fed { (marks : Bool) (held : Option (List ℕ)) → Feeds D.view L.answers marks result held held (E.keeping engine.old) (E.keeping engine.new) [] }
         ensures rests { Carries L.answers (E.keeping engine.old) (E.keeping engine.new) [] }
         ensures own { E.alone ≡ true → OnOk result ((E.hall engine.new).batches ≡ since_base (E.keeping engine.new)) }
         ensures base { SameBase (E.keeping engine.old) (E.keeping engine.new) }
@@ -269,8 +269,8 @@ impl Feeding {
         writer: &mut W,
     ) -> Result<(), Fault>
         requires whole { (E.keeping engine.old).broken ≡ false }
-        ensures disk { KeepsDisk D.capacity D.is_lawful D.failures result (E.keeping engine.old).device (E.keeping engine.new).device }
-        ensures fed { Feeds D.is_lawful D.state D.failures L.answers W.marks result (W.contents writer.old) (W.contents writer.new) (E.keeping engine.old) (E.keeping engine.new) [] }
+        ensures disk { KeepsDisk D.view result (E.keeping engine.old).device (E.keeping engine.new).device }
+        ensures fed { Feeds D.view L.answers W.marks result (W.contents writer.old) (W.contents writer.new) (E.keeping engine.old) (E.keeping engine.new) [] }
         ensures rests { Carries L.answers (E.keeping engine.old) (E.keeping engine.new) [] }
         ensures none_left { OnOk result ((E.keeping engine.new).queue ≡ []) }
         ensures all_out { E.alone ≡ true → OnOk result (IsAllOut (E.keeping engine.new)) }
@@ -292,8 +292,8 @@ impl Feeding {
         writer: &mut W,
     ) -> Result<(), Fault>
         requires whole { (E.keeping engine.old).broken ≡ false }
-        ensures disk { KeepsDisk D.capacity D.is_lawful D.failures result (E.keeping engine.old).device (E.keeping engine.new).device }
-        ensures fed { Feeds D.is_lawful D.state D.failures L.answers W.marks result (W.contents writer.old) (W.contents writer.new) (E.keeping engine.old) (E.keeping engine.new) [] }
+        ensures disk { KeepsDisk D.view result (E.keeping engine.old).device (E.keeping engine.new).device }
+        ensures fed { Feeds D.view L.answers W.marks result (W.contents writer.old) (W.contents writer.new) (E.keeping engine.old) (E.keeping engine.new) [] }
         ensures held { KeepsTo seen (E.keeping engine.old) (E.keeping engine.new) }
     {
         match self.pace {
@@ -315,8 +315,8 @@ impl Feeding {
     ) -> Result<(), Fault>
         requires whole { (E.keeping engine.old).broken ≡ false }
         requires rising { MayFollow (last_request (E.keeping engine.old).standing) (Some asked) }
-        ensures disk { KeepsDisk D.capacity D.is_lawful D.failures result (E.keeping engine.old).device (E.keeping engine.new).device }
-        ensures fed { FeedsCopying D.is_lawful D.state D.failures L.answers W.marks H.New.is_lawful H.New.state result (W.contents writer.old) (W.contents writer.new) (H.copies host.old) (H.copies host.new) (E.keeping engine.old) (E.keeping engine.new) (new_to (E.keeping engine.old) (asked_for asked)) (notes_for asked) }
+        ensures disk { KeepsDisk D.view result (E.keeping engine.old).device (E.keeping engine.new).device }
+        ensures fed { FeedsCopying D.view L.answers W.marks H.New.view result (W.contents writer.old) (W.contents writer.new) (H.copies host.old) (H.copies host.new) (E.keeping engine.old) (E.keeping engine.new) (new_to (E.keeping engine.old) (asked_for asked)) (notes_for asked) }
         ensures held { KeepsTo seen (E.keeping engine.old) (E.keeping engine.new) }
         ensures seen { H.seen host.new ≡ H.seen host.old }
     {
@@ -335,8 +335,8 @@ impl Feeding {
         writer: &mut W,
     ) -> Result<(), Fault>
         requires whole { (E.keeping engine.old).broken ≡ false }
-        ensures disk { KeepsDisk D.capacity D.is_lawful D.failures result (E.keeping engine.old).device (E.keeping engine.new).device }
-        ensures fed { Feeds D.is_lawful D.state D.failures L.answers W.marks result (W.contents writer.old) (W.contents writer.new) (E.keeping engine.old) (E.keeping engine.new) [] }
+        ensures disk { KeepsDisk D.view result (E.keeping engine.old).device (E.keeping engine.new).device }
+        ensures fed { Feeds D.view L.answers W.marks result (W.contents writer.old) (W.contents writer.new) (E.keeping engine.old) (E.keeping engine.new) [] }
         ensures held { KeepsTo seen (E.keeping engine.old) (E.keeping engine.new) }
     {
         match self.pace {
@@ -360,8 +360,8 @@ impl Feeding {
         writer: &mut W,
     ) -> Result<(), Fault>
         requires whole { (E.keeping engine.old).broken ≡ false }
-        ensures disk { KeepsDisk D.capacity D.is_lawful D.failures result (E.keeping engine.old).device (E.keeping engine.new).device }
-        ensures fed { Feeds D.is_lawful D.state D.failures L.answers W.marks result (W.contents writer.old) (W.contents writer.new) (E.keeping engine.old) (E.keeping engine.new) [] }
+        ensures disk { KeepsDisk D.view result (E.keeping engine.old).device (E.keeping engine.new).device }
+        ensures fed { Feeds D.view L.answers W.marks result (W.contents writer.old) (W.contents writer.new) (E.keeping engine.old) (E.keeping engine.new) [] }
         ensures held { KeepsTo seen (E.keeping engine.old) (E.keeping engine.new) }
     {
         if is_cut_due(engine.keeper(), every, seen) {
@@ -378,10 +378,10 @@ impl Feeding {
         engine: &mut E,
     ) -> Result<(), Fault>
         requires whole { (E.keeping engine.old).broken ≡ false }
-        ensures disk { KeepsDisk D.capacity D.is_lawful D.failures result (E.keeping engine.old).device (E.keeping engine.new).device }
+        ensures disk { KeepsDisk D.view result (E.keeping engine.old).device (E.keeping engine.new).device }
 
         // Nothing is written, whatever the writer is.
-        ensures fed { (marks : Bool) (held : Option (List ℕ)) → Feeds D.is_lawful D.state D.failures L.answers marks result held held (E.keeping engine.old) (E.keeping engine.new) [] }
+        ensures fed { (marks : Bool) (held : Option (List ℕ)) → Feeds D.view L.answers marks result held held (E.keeping engine.old) (E.keeping engine.new) [] }
         ensures base { SameBase (E.keeping engine.old) (E.keeping engine.new) }
     {
         if self.freed == 0 {
@@ -403,8 +403,8 @@ impl Feeding {
         writer: &mut W,
     ) -> Result<(), Fault>
         requires whole { (E.keeping engine.old).broken ≡ false }
-        ensures disk { KeepsDisk D.capacity D.is_lawful D.failures result (E.keeping engine.old).device (E.keeping engine.new).device }
-        ensures fed { Feeds D.is_lawful D.state D.failures L.answers W.marks result (W.contents writer.old) (W.contents writer.new) (E.keeping engine.old) (E.keeping engine.new) [] }
+        ensures disk { KeepsDisk D.view result (E.keeping engine.old).device (E.keeping engine.new).device }
+        ensures fed { Feeds D.view L.answers W.marks result (W.contents writer.old) (W.contents writer.new) (E.keeping engine.old) (E.keeping engine.new) [] }
         ensures written { OnOk result ((E.keeping engine.new).waiting ≡ false) }
         ensures held { KeepsTo seen (E.keeping engine.old) (E.keeping engine.new) }
     {
@@ -442,8 +442,8 @@ fn tell_full<D: Disk, L: Law, R, E: Obey<D, L, R>, W: Voice>(
     writer: &mut W,
 ) -> Result<(), Fault>
     requires whole { (E.keeping engine.now).broken ≡ false }
-    ensures disk { KeepsDisk D.capacity D.is_lawful D.failures result (E.keeping engine.now).device (E.keeping engine.now).device }
-    ensures fed { Feeds D.is_lawful D.state D.failures L.answers W.marks result (W.contents writer.old) (W.contents writer.new) (E.keeping engine.now) (E.keeping engine.now) [] }
+    ensures disk { KeepsDisk D.view result (E.keeping engine.now).device (E.keeping engine.now).device }
+    ensures fed { Feeds D.view L.answers W.marks result (W.contents writer.old) (W.contents writer.new) (E.keeping engine.now) (E.keeping engine.now) [] }
 {
     let keeper = engine.keeper();
     if seen.is_none() || !keeper.is_full() {
@@ -484,8 +484,8 @@ fn write_outs<D: Disk, L: Law, R, E: Obey<D, L, R>, W: Voice>(
     writer: &mut W,
 ) -> Result<(), Fault>
     requires whole { (E.keeping engine.old).broken ≡ false }
-    ensures disk { KeepsDisk D.capacity D.is_lawful D.failures result (E.keeping engine.old).device (E.keeping engine.new).device }
-    ensures fed { Feeds D.is_lawful D.state D.failures L.answers W.marks result (W.contents writer.old) (W.contents writer.new) (E.keeping engine.old) (E.keeping engine.new) [] }
+    ensures disk { KeepsDisk D.view result (E.keeping engine.old).device (E.keeping engine.new).device }
+    ensures fed { Feeds D.view L.answers W.marks result (W.contents writer.old) (W.contents writer.new) (E.keeping engine.old) (E.keeping engine.new) [] }
     ensures rests { Carries L.answers (E.keeping engine.old) (E.keeping engine.new) [] }
     ensures none_left { OnOk result ((E.keeping engine.new).queue ≡ []) }
     ensures stands { ((E.keeping engine.new).standing ≡ (E.keeping engine.old).standing) × ((E.keeping engine.new).collected ≡ (E.keeping engine.old).collected) }
@@ -525,7 +525,7 @@ fn next_out<D: Disk, L: Law, R, E: Obey<D, L, R>>(engine: &mut E) -> Option<Epoc
     ensures carried { Carries L.answers (E.keeping engine.old) (E.keeping engine.new) [] }
     ensures some { IfSome result (λ out. (E.keeping engine.old).queue ≡ out ∷ (E.keeping engine.new).queue) }
     ensures none { IfNone result ((E.keeping engine.new).queue ≡ []) }
-    ensures driven { Driven D.is_lawful D.state D.failures L.answers (NextOut ∷ []) (Out result ∷ []) (E.keeping engine.old) (E.keeping engine.new) }
+    ensures driven { Driven D.view L.answers (NextOut ∷ []) (Out result ∷ []) (E.keeping engine.old) (E.keeping engine.new) }
     ensures base { SameBase (E.keeping engine.old) (E.keeping engine.new) }
 {
     let out = engine.next_out();

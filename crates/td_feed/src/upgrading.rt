@@ -3,7 +3,7 @@ ghost use Rattle.std.specs.Prelude.{◌≡◌, ◌⊎◌, ◌↔◌, ◌≤◌, 
 ghost use Rattle.std.specs.Io.KnownBytes.{Appends};
 ghost use Rattle.td_disk.specs.Disk.{Rises};
 ghost use Rattle.td_journal.specs.declared.submitted.Submitted.{Submitted as AnySubmitted};
-ghost use Rattle.td_standing.specs.declared.error.KeeperError.TheVariants.{Device};
+ghost use Rattle.td_store.specs.declared.standing.error.KeeperError.TheVariants.{Device};
 ghost use Rattle.td_feed.specs.Fed.{EachTellsHistory};
 ghost use Rattle.td_feed.specs.Session.{KeepsDisk};
 ghost use Rattle.td_feed.specs.Upgraded.{version_line, IsNumbered};
@@ -15,7 +15,7 @@ use td_disk::Disk;
 use td_keeper::Keeper;
 use td_keeper::laws::each_disk_holds;
 use td_plan::Plan;
-use td_standing::laws;
+use td_store::standing::laws;
 
 /// Recovers a disk, raises it to version 2 of the format, which has request numbers, and writes `version 2`, also where it was of
 /// version 2 before. What it tells stays as it was.
@@ -29,14 +29,14 @@ pub fn upgrade<D: Disk, L: Law, W: Sink>(
     plan: &Plan,
     writer: &mut W,
 ) -> (D, Result<(), Fault>)
-    ensures disk { KeepsDisk D.capacity D.is_lawful D.failures result.1 disk result.0 }
+    ensures disk { KeepsDisk D.view result.1 disk result.0 }
 
     // A DISK THAT STOOD FOR A HISTORY, whatever a crash had left of it, stands for it at any answer.
-    ensures same { D.is_lawful disk → (history : List AnySubmitted) → EachTellsHistory L.answers plan.now history (D.state disk)
-        → EachTellsHistory L.answers plan.now history (D.state result.0) }
+    ensures same { (D.view disk).lawful → (history : List AnySubmitted) → EachTellsHistory L.answers plan.now history (D.view disk).state
+        → EachTellsHistory L.answers plan.now history (D.view result.0).state }
 
     // After Ok it is of version 2, whatever a crash leaves of it, and that is written.
-    ensures raised { OnOk result.1 (D.is_lawful disk → IsNumbered plan.now (D.state result.0)) }
+    ensures raised { OnOk result.1 ((D.view disk).lawful → IsNumbered plan.now (D.view result.0).state) }
     ensures said { OnOk result.1 (Appends (W.contents writer.old) (W.contents writer.new) version_line) }
     ensures unsaid { IfErr result.1 (λ f. (f ≡ Fault.Output) ⊎ (writer.new ≡ writer.old)) }
 {

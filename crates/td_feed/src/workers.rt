@@ -5,7 +5,7 @@
 //! `td_workers` is not used here: of a reference in its work nothing is known afterwards, and a feed says what its writer then
 //! holds.
 ghost use Rattle.std.specs.Prelude.{◌≡◌, false, IfSome};
-ghost use Rattle.td_standing.specs.Standing.{last_epoch, last_request};
+ghost use Rattle.td_store.specs.standing.Standing.{last_epoch, last_request};
 ghost use Rattle.td_feed.specs.Held.{KeepsTo, TellsSeen, seen_at, then_seen};
 ghost use Rattle.td_feed.specs.Session.{KeepsDisk, FeedsScript};
 
@@ -56,8 +56,8 @@ pub(crate) fn obey_by_workers<
     requires parts { (blank.parts ≡ K.parts) × (K.parts ≡ K.shards) }
     requires hall { (hall.workers ≡ K.shards) × (hall.given ≡ K.start) }
     requires whole { keeper.broken ≡ false }
-    ensures disk { KeepsDisk D.capacity D.is_lawful D.failures result.1 keeper.device result.0.device }
-    ensures fed { IfSome (S.script (last_epoch keeper.standing) (last_request keeper.standing) orders) (λ script. FeedsScript D.is_lawful D.state D.failures L.answers W.marks H.New.is_lawful H.New.state result.1 (W.contents writer.old) (W.contents writer.new) (H.copies host.old) (H.copies host.new) keeper result.0 script) }
+    ensures disk { KeepsDisk D.view result.1 keeper.device result.0.device }
+    ensures fed { IfSome (S.script (last_epoch keeper.standing) (last_request keeper.standing) orders) (λ script. FeedsScript D.view L.answers W.marks H.New.view result.1 (W.contents writer.old) (W.contents writer.new) (H.copies host.old) (H.copies host.new) keeper result.0 script) }
     ensures held { IfSome (S.script (last_epoch keeper.standing) (last_request keeper.standing) orders) (λ script. KeepsTo (then_seen (seen_at feeding.pace keeper.standing.epoch) script.orders) keeper result.0) }
     ensures seen { IfSome (S.script (last_epoch keeper.standing) (last_request keeper.standing) orders) (λ script. TellsSeen result.1 (seen_at feeding.pace keeper.standing.epoch) script.orders (H.seen host.old) (H.seen host.new)) }
 {
@@ -98,8 +98,8 @@ fn beside<
 ) -> ((Keeper<D, L>, Result<(), Fault>), &'h mut H)
     requires whole { keeper.broken ≡ false }
     ensures same_host { result.1.ghost_name ≡ host.entry.ghost_name }
-    ensures disk { KeepsDisk D.capacity D.is_lawful D.failures result.0.1 keeper.device result.0.0.device }
-    ensures fed { IfSome (S.script (last_epoch keeper.standing) (last_request keeper.standing) orders) (λ script. FeedsScript D.is_lawful D.state D.failures L.answers W.marks H.New.is_lawful H.New.state result.0.1 (W.contents writer.old) (W.contents writer.new) (H.copies host.entry.now) (H.copies result.1.now) keeper result.0.0 script) }
+    ensures disk { KeepsDisk D.view result.0.1 keeper.device result.0.0.device }
+    ensures fed { IfSome (S.script (last_epoch keeper.standing) (last_request keeper.standing) orders) (λ script. FeedsScript D.view L.answers W.marks H.New.view result.0.1 (W.contents writer.old) (W.contents writer.new) (H.copies host.entry.now) (H.copies result.1.now) keeper result.0.0 script) }
     ensures held { IfSome (S.script (last_epoch keeper.standing) (last_request keeper.standing) orders) (λ script. KeepsTo (then_seen (seen_at feeding.pace keeper.standing.epoch) script.orders) keeper result.0.0) }
     ensures seen { IfSome (S.script (last_epoch keeper.standing) (last_request keeper.standing) orders) (λ script. TellsSeen result.0.1 (seen_at feeding.pace keeper.standing.epoch) script.orders (H.seen host.entry.now) (H.seen result.1.now)) }
 {
@@ -112,8 +112,8 @@ fn beside<
             requires { keeper.broken ≡ false }
             ensures same_writer { result.2.ghost_name ≡ writer.entry.ghost_name }
             ensures same_host { result.1.ghost_name ≡ host.entry.ghost_name }
-            ensures disk { KeepsDisk D.capacity D.is_lawful D.failures result.0.1 keeper.device result.0.0.device }
-            ensures fed { IfSome (S.script (last_epoch keeper.standing) (last_request keeper.standing) orders) (λ script. FeedsScript D.is_lawful D.state D.failures L.answers W.marks H.New.is_lawful H.New.state result.0.1 (W.contents writer.entry.now) (W.contents result.2.now) (H.copies host.entry.now) (H.copies result.1.now) keeper result.0.0 script) }
+            ensures disk { KeepsDisk D.view result.0.1 keeper.device result.0.0.device }
+            ensures fed { IfSome (S.script (last_epoch keeper.standing) (last_request keeper.standing) orders) (λ script. FeedsScript D.view L.answers W.marks H.New.view result.0.1 (W.contents writer.entry.now) (W.contents result.2.now) (H.copies host.entry.now) (H.copies result.1.now) keeper result.0.0 script) }
             ensures held { IfSome (S.script (last_epoch keeper.standing) (last_request keeper.standing) orders) (λ script. KeepsTo (then_seen (seen_at feeding.pace keeper.standing.epoch) script.orders) keeper result.0.0) }
             ensures seen { IfSome (S.script (last_epoch keeper.standing) (last_request keeper.standing) orders) (λ script. TellsSeen result.0.1 (seen_at feeding.pace keeper.standing.epoch) script.orders (H.seen host.entry.now) (H.seen result.1.now)) }
         {

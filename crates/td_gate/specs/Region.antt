@@ -1,7 +1,7 @@
 -- A region of a disk: a payload, and the gate byte behind it.
 use Rattle.std.specs.Prelude.{◌≡◌, ◌≢◌, ◌⊎◌, ◌↔◌, ◌<◌, ◌≤◌, ℕ, ◌+◌, List, length, take, slice_index, Option, Some, None, Bool, true, false, Vec, if◌then◌else◌, ◌==◌}
 use Rattle.std.specs.declared.alloc.Global.{Global}
-use Rattle.td_disk.specs.Disk.{DiskState, bytes_at, SameOutside}
+use Rattle.td_disk.specs.Disk.{DiskView, DiskState, bytes_at, SameOutside}
 use Rattle.td_gate.specs.declared.region.Region.{Region}
 
 -- the gate byte
@@ -62,12 +62,6 @@ pub record Opens (r : Region) (payload old new : List ℕ) : Type 0 where
 pub record Puts (r : Region) (payload old new : List ℕ) : Type 0 where
   pub others : SameOutside r.at (r.len + 1) old new
   pub region : (opened r new ≡ opened r old) ⊎ ((opened r new ≡ None) ⊎ (opened r new ≡ Some payload))
-
--- What holds of any disk after any calls: its size stays, no failure is forgotten, and it is lawful where it was.
-pub record KeepsDisk {D : Type 0} (capacity failures : D → ℕ) (is_lawful : D → Type 0) (old new : D) : Type 0 where
-  pub size : capacity new ≡ capacity old
-  pub later : failures old ≤ failures new
-  pub lawful : is_lawful old ↔ is_lawful new
 
 -- the bytes of a payload that was read
 abbrev pub payload_of : Option (Vec ℕ Global) → Option (List ℕ)

@@ -12,18 +12,18 @@ use td_disk::{Disk, Fault};
 impl Region {
     /// The payload where the gate is open, else `None`. It refuses `Device` and `Memory`.
     pub fn get<D: Disk>(&self, alloc: Global, device: &mut D) -> Result<Option<Vec<u8>>, GateError>
-        requires { self.now.at + self.now.len + 1 ≤ D.capacity device.old }
-        ensures found { IfOk result (λ found. D.is_lawful device.old
-            → payload_of found ≡ opened self.now (D.state device.old).bytes) }
+        requires { self.now.at + self.now.len + 1 ≤ (D.view device.old).capacity }
+        ensures found { IfOk result (λ found. (D.view device.old).lawful
+            → payload_of found ≡ opened self.now (D.view device.old).state.bytes) }
 
         // Whatever the disk, also one that is not lawful.
         ensures len { IfOk result (λ found. HasLength found self.now.len) }
 
-        ensures every { IfOk result (λ found. D.is_lawful device.old
-            → IsSettled self.now (D.state device.old) → (c : List ℕ) → (D.state device.old).images c
+        ensures every { IfOk result (λ found. (D.view device.old).lawful
+            → IsSettled self.now (D.view device.old).state → (c : List ℕ) → (D.view device.old).state.images c
             → payload_of found ≡ opened self.now c) }
-        ensures failures { CountsDevice result GateError.Device (D.failures device.old) (D.failures device.new) }
-        ensures read { IsRead D.capacity D.is_lawful D.state device.old device.new }
+        ensures failures { CountsDevice result GateError.Device (D.view device.old).failures (D.view device.new).failures }
+        ensures read { IsRead D.view device.old device.new }
     {
         self.start_if_open(alloc, device, self.len)
     }
@@ -32,12 +32,12 @@ impl Region {
     /// gate, so that one call of the disk reads both. It takes no memory: one region after another is read with that of one. It
     /// refuses `Device`.
     pub fn get_into<D: Disk>(&self, device: &mut D, bytes: &mut [u8]) -> Result<bool, Fault>
-        requires room { self.now.at + self.now.len + 1 ≤ D.capacity device.old }
+        requires room { self.now.at + self.now.len + 1 ≤ (D.view device.old).capacity }
         requires len { length bytes.old ≡ self.now.len + 1 }
-        ensures found { IfOk result (λ is. D.is_lawful device.old
-            → payload_in is (take self.now.len bytes.new) ≡ opened self.now (D.state device.old).bytes) }
-        ensures failures { CountsFailures result (D.failures device.old) (D.failures device.new) }
-        ensures read { IsRead D.capacity D.is_lawful D.state device.old device.new }
+        ensures found { IfOk result (λ is. (D.view device.old).lawful
+            → payload_in is (take self.now.len bytes.new) ≡ opened self.now (D.view device.old).state.bytes) }
+        ensures failures { CountsFailures result (D.view device.old).failures (D.view device.new).failures }
+        ensures read { IsRead D.view device.old device.new }
     {
         device.read(self.at, bytes)?;
         Ok(bytes[self.len as usize] == OPEN)
@@ -51,27 +51,27 @@ impl Region {
         device: &mut D,
         count: u64,
     ) -> Result<Option<Vec<u8>>, GateError>
-        requires room { self.now.at + self.now.len + 1 ≤ D.capacity device.old }
+        requires room { self.now.at + self.now.len + 1 ≤ (D.view device.old).capacity }
         requires count { count ≤ self.now.len }
-        ensures found { IfOk result (λ found. D.is_lawful device.old
-            → payload_of found ≡ start_of count (opened self.now (D.state device.old).bytes)) }
+        ensures found { IfOk result (λ found. (D.view device.old).lawful
+            → payload_of found ≡ start_of count (opened self.now (D.view device.old).state.bytes)) }
         ensures len { IfOk result (λ found. HasLength found count) }
-        ensures every { IfOk result (λ found. D.is_lawful device.old
-            → IsSettled self.now (D.state device.old) → (c : List ℕ) → (D.state device.old).images c
+        ensures every { IfOk result (λ found. (D.view device.old).lawful
+            → IsSettled self.now (D.view device.old).state → (c : List ℕ) → (D.view device.old).state.images c
             → payload_of found ≡ start_of count (opened self.now c)) }
-        ensures failures { CountsDevice result GateError.Device (D.failures device.old) (D.failures device.new) }
-        ensures read { IsRead D.capacity D.is_lawful D.state device.old device.new }
+        ensures failures { CountsDevice result GateError.Device (D.view device.old).failures (D.view device.new).failures }
+        ensures read { IsRead D.view device.old device.new }
     {
         self.start_if_open(alloc, device, count)
     }
 
     /// Reads whether the gate is open.
     fn is_open<D: Disk>(&self, device: &mut D) -> Result<bool, Fault>
-        requires { self.now.at + self.now.len + 1 ≤ D.capacity device.old }
-        ensures open { IfOk result (λ is. D.is_lawful device.old
-            → is ≡ (gate_of self.now (D.state device.old).bytes == 0xA5)) }
-        ensures failures { CountsFailures result (D.failures device.old) (D.failures device.new) }
-        ensures read { IsRead D.capacity D.is_lawful D.state device.old device.new }
+        requires { self.now.at + self.now.len + 1 ≤ (D.view device.old).capacity }
+        ensures open { IfOk result (λ is. (D.view device.old).lawful
+            → is ≡ (gate_of self.now (D.view device.old).state.bytes == 0xA5)) }
+        ensures failures { CountsFailures result (D.view device.old).failures (D.view device.new).failures }
+        ensures read { IsRead D.view device.old device.new }
     {
         // The answer fits a u64, and so each sum of places on the disk does.
         let _size = device.size();
@@ -88,13 +88,13 @@ impl Region {
         device: &mut D,
         count: u64,
     ) -> Result<Option<Vec<u8>>, GateError>
-        requires room { self.now.at + self.now.len + 1 ≤ D.capacity device.old }
+        requires room { self.now.at + self.now.len + 1 ≤ (D.view device.old).capacity }
         requires count { count ≤ self.now.len }
-        ensures found { IfOk result (λ found. D.is_lawful device.old
-            → payload_of found ≡ start_of count (opened self.now (D.state device.old).bytes)) }
+        ensures found { IfOk result (λ found. (D.view device.old).lawful
+            → payload_of found ≡ start_of count (opened self.now (D.view device.old).state.bytes)) }
         ensures len { IfOk result (λ found. HasLength found count) }
-        ensures failures { CountsDevice result GateError.Device (D.failures device.old) (D.failures device.new) }
-        ensures read { IsRead D.capacity D.is_lawful D.state device.old device.new }
+        ensures failures { CountsDevice result GateError.Device (D.view device.old).failures (D.view device.new).failures }
+        ensures read { IsRead D.view device.old device.new }
     {
         if !self.is_open(device)? {
             return Ok(None);

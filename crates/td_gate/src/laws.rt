@@ -34,113 +34,113 @@ pub fn puts_leave_others()
 
 /// On a disk where a crash leaves what is read, each region is settled.
 pub fn durable_is_settled<D: Disk>()
-    ensures { (d : D) (r : AnyRegion) → IsDurable (D.state d) → IsSettled r (D.state d) }
+    ensures { (d : D) (r : AnyRegion) → IsDurable (D.view d).state → IsSettled r (D.view d).state }
 {}
 
 /// Where a region is settled, each image has it as it is read.
 pub fn settled_is_read<D: Disk>()
     ensures { (d : D) (r : AnyRegion) (c : List ℕ)
-        → D.is_lawful d
-        → IsSettled r (D.state d)
-        → (D.state d).images c
-        → opened r c ≡ opened r (D.state d).bytes }
+        → (D.view d).lawful
+        → IsSettled r (D.view d).state
+        → (D.view d).state.images c
+        → opened r c ≡ opened r (D.view d).state.bytes }
 {}
 
 /// Calls that make no new image, as reads and syncs, are a sequence of no puts.
 pub fn no_puts<D: Disk>()
-    ensures none { (d : D) → D.is_lawful d → CrashSafe (PutsInTurn []) (D.state d) (D.state d) }
+    ensures none { (d : D) → (D.view d).lawful → CrashSafe (PutsInTurn []) (D.view d).state (D.view d).state }
     ensures read { (old new : D)
-        → CrashSafe Unchanged (D.state old) (D.state new)
-        → CrashSafe (PutsInTurn []) (D.state old) (D.state new) }
+        → CrashSafe Unchanged (D.view old).state (D.view new).state
+        → CrashSafe (PutsInTurn []) (D.view old).state (D.view new).state }
     ensures begun { (old new : D)
-        → D.is_lawful old
-        → NoNewImages (D.state old) (D.state new)
-        → TimePasses (D.state old) (D.state new)
-        → CrashSafe (PutsInTurn []) (D.state old) (D.state new) }
+        → (D.view old).lawful
+        → NoNewImages (D.view old).state (D.view new).state
+        → TimePasses (D.view old).state (D.view new).state
+        → CrashSafe (PutsInTurn []) (D.view old).state (D.view new).state }
     ensures done { (old new : D)
-        → NoNewImages (D.state old) (D.state new)
-        → ImagesFollow (PutsDone []) (D.state old) (D.state new) }
+        → NoNewImages (D.view old).state (D.view new).state
+        → ImagesFollow (PutsDone []) (D.view old).state (D.view new).state }
 {}
 
 /// Calls that make no new image, as reads and syncs, change no image, and a disk that was durable
 /// and reads as before is durable after them.
 pub fn unchanged<D: Disk>()
-    ensures none { (d : D) → D.is_lawful d → CrashSafe Unchanged (D.state d) (D.state d) }
+    ensures none { (d : D) → (D.view d).lawful → CrashSafe Unchanged (D.view d).state (D.view d).state }
     ensures call { (old new : D)
-        → D.is_lawful old
-        → NoNewImages (D.state old) (D.state new)
-        → TimePasses (D.state old) (D.state new)
-        → CrashSafe Unchanged (D.state old) (D.state new) }
+        → (D.view old).lawful
+        → NoNewImages (D.view old).state (D.view new).state
+        → TimePasses (D.view old).state (D.view new).state
+        → CrashSafe Unchanged (D.view old).state (D.view new).state }
     ensures durable { (old new : D)
-        → D.is_lawful new
-        → IsDurable (D.state old)
-        → (D.state new).bytes ≡ (D.state old).bytes
-        → CrashSafe Unchanged (D.state old) (D.state new)
-        → IsDurable (D.state new) }
+        → (D.view new).lawful
+        → IsDurable (D.view old).state
+        → (D.view new).state.bytes ≡ (D.view old).state.bytes
+        → CrashSafe Unchanged (D.view old).state (D.view new).state
+        → IsDurable (D.view new).state }
 {}
 
 /// Runs of calls that change no image, and of calls that only read, one after another.
 pub fn reads_in_turn<D: Disk>()
     ensures unchanged { (old mid new : D)
-        → D.is_lawful mid
-        → CrashSafe Unchanged (D.state old) (D.state mid)
-        → CrashSafe Unchanged (D.state mid) (D.state new)
-        → CrashSafe Unchanged (D.state old) (D.state new) }
-    ensures none { (d : D) → IsRead D.capacity D.is_lawful D.state d d }
+        → (D.view mid).lawful
+        → CrashSafe Unchanged (D.view old).state (D.view mid).state
+        → CrashSafe Unchanged (D.view mid).state (D.view new).state
+        → CrashSafe Unchanged (D.view old).state (D.view new).state }
+    ensures none { (d : D) → IsRead D.view d d }
     ensures read { (old mid new : D)
-        → IsRead D.capacity D.is_lawful D.state old mid
-        → IsRead D.capacity D.is_lawful D.state mid new
-        → IsRead D.capacity D.is_lawful D.state old new }
+        → IsRead D.view old mid
+        → IsRead D.view mid new
+        → IsRead D.view old new }
 {}
 
 /// One put is a sequence of one.
 pub fn one_put<D: Disk>()
     ensures begun { (put : Put) (old new : D)
-        → CrashSafe (Puts put.region put.payload) (D.state old) (D.state new)
-        → CrashSafe (PutsInTurn (put ∷ [])) (D.state old) (D.state new) }
+        → CrashSafe (Puts put.region put.payload) (D.view old).state (D.view new).state
+        → CrashSafe (PutsInTurn (put ∷ [])) (D.view old).state (D.view new).state }
     ensures done { (put : Put) (old new : D)
-        → D.is_lawful new
-        → CrashSafe (Puts put.region put.payload) (D.state old) (D.state new)
-        → IsOpen put.region put.payload (D.state new)
-        → ImagesFollow (PutsDone (put ∷ [])) (D.state old) (D.state new) }
+        → (D.view new).lawful
+        → CrashSafe (Puts put.region put.payload) (D.view old).state (D.view new).state
+        → IsOpen put.region put.payload (D.view new).state
+        → ImagesFollow (PutsDone (put ∷ [])) (D.view old).state (D.view new).state }
 {}
 
 /// Each step of a put, made alone, is a put that was cut off or done.
 pub fn steps_are_puts<D: Disk>()
     ensures close { (r : AnyRegion) (payload : List ℕ) (old new : D)
-        → CrashSafe (Closes r) (D.state old) (D.state new)
-        → CrashSafe (Puts r payload) (D.state old) (D.state new) }
+        → CrashSafe (Closes r) (D.view old).state (D.view new).state
+        → CrashSafe (Puts r payload) (D.view old).state (D.view new).state }
     ensures fill { (r : AnyRegion) (payload : List ℕ) (old new : D)
-        → CrashSafe (Fills r) (D.state old) (D.state new)
-        → CrashSafe (Puts r payload) (D.state old) (D.state new) }
+        → CrashSafe (Fills r) (D.view old).state (D.view new).state
+        → CrashSafe (Puts r payload) (D.view old).state (D.view new).state }
     ensures open { (r : AnyRegion) (payload : List ℕ) (old new : D)
-        → CrashSafe (Opens r payload) (D.state old) (D.state new)
-        → CrashSafe (Puts r payload) (D.state old) (D.state new) }
+        → CrashSafe (Opens r payload) (D.view old).state (D.view new).state
+        → CrashSafe (Puts r payload) (D.view old).state (D.view new).state }
 {}
 
 /// A sequence of puts that are done, and another sequence after it.
 pub fn puts_in_turn<D: Disk>()
     ensures begun { (puts more : List Put) (old mid new : D)
-        → CrashSafe (PutsInTurn puts) (D.state old) (D.state mid)
-        → ImagesFollow (PutsDone puts) (D.state old) (D.state mid)
-        → CrashSafe (PutsInTurn more) (D.state mid) (D.state new)
-        → CrashSafe (PutsInTurn (puts ++ more)) (D.state old) (D.state new) }
+        → CrashSafe (PutsInTurn puts) (D.view old).state (D.view mid).state
+        → ImagesFollow (PutsDone puts) (D.view old).state (D.view mid).state
+        → CrashSafe (PutsInTurn more) (D.view mid).state (D.view new).state
+        → CrashSafe (PutsInTurn (puts ++ more)) (D.view old).state (D.view new).state }
     ensures done { (puts more : List Put) (old mid new : D)
-        → ImagesFollow (PutsDone puts) (D.state old) (D.state mid)
-        → ImagesFollow (PutsDone more) (D.state mid) (D.state new)
-        → ImagesFollow (PutsDone (puts ++ more)) (D.state old) (D.state new) }
+        → ImagesFollow (PutsDone puts) (D.view old).state (D.view mid).state
+        → ImagesFollow (PutsDone more) (D.view mid).state (D.view new).state
+        → ImagesFollow (PutsDone (puts ++ more)) (D.view old).state (D.view new).state }
 {}
 
 /// A sequence of puts keeps each settled region that is apart from theirs, in every image since its
 /// start, also where it was cut off.
 pub fn puts_keep_others<D: Disk>()
     ensures { (puts : List Put) (s : AnyRegion) (old new : D)
-        → D.is_lawful old
-        → D.is_lawful new
+        → (D.view old).lawful
+        → (D.view new).lawful
         → ApartFromAll s puts
-        → IsSettled s (D.state old)
-        → CrashSafe (PutsInTurn puts) (D.state old) (D.state new)
-        → KeepsRegion s (D.state old) (D.state new) }
+        → IsSettled s (D.view old).state
+        → CrashSafe (PutsInTurn puts) (D.view old).state (D.view new).state
+        → KeepsRegion s (D.view old).state (D.view new).state }
 {}
 
 /// What the module `fields` writes is read back, whatever follows it.

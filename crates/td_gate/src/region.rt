@@ -1,11 +1,12 @@
 // A region behind a gate, and the three steps that replace its payload.
 ghost use Rattle.std.specs.Prelude.{◌≡◌, ◌⊎◌, ◌+◌, ◌≤◌, ◌↔◌, ℕ, List, length, None, Some, OnOk, IfOk, IfErr};
-ghost use Rattle.td_disk.specs.Disk.{CountsFailures, IsDurable, Rises};
+ghost use Rattle.td_disk.specs.Calls.{Calls, IsKept, HasFailed};
+ghost use Rattle.td_disk.specs.Disk.{IsDurable};
 ghost use Rattle.td_gate.specs.CrashSafe.{CrashSafe};
 ghost use Rattle.td_gate.specs.declared.region.Region.{Region as AnyRegion};
 ghost use Rattle.td_gate.specs.Regions.{Apart, KeepsRegion};
 ghost use Rattle.td_gate.specs.States.{closed_region, closed_disk, filled_region, filled_disk};
-ghost use Rattle.td_gate.specs.Region.{opened, gate_of, closed_byte, KeepsDisk, IsSettled, IsClosed, IsFilled, IsOpen};
+ghost use Rattle.td_gate.specs.Region.{opened, gate_of, closed_byte, IsSettled, IsClosed, IsFilled, IsOpen};
 ghost use Rattle.td_gate.specs.Region.{Closes, Fills, Opens, Puts};
 
 use crate::write_and_sync::write_and_sync;
@@ -44,17 +45,15 @@ pub struct Filled<'a, D: Disk> {
 
 /// Closes the gate where it reads open.
 fn close_gate<D: Disk>(region: Region, device: &mut D) -> Result<(), Fault>
-    requires { region.at + region.len + 1 ≤ D.capacity device.old }
-    ensures size { D.capacity device.new ≡ D.capacity device.old }
-    ensures cause { CountsFailures result (D.failures device.old) (D.failures device.new) }
-    ensures lawful { D.is_lawful device.old ↔ D.is_lawful device.new }
-    ensures crash_safe { D.is_lawful device.old → IsSettled region (D.state device.old)
-        → CrashSafe (Closes region) (D.state device.old) (D.state device.new) }
-    ensures closed { OnOk result (D.is_lawful device.old → IsSettled region (D.state device.old)
-        → IsClosed region (D.state device.new)) }
-    ensures gate { OnOk result (D.is_lawful device.old
-        → gate_of region (D.state device.new).bytes ≡ closed_byte (gate_of region (D.state device.old).bytes)) }
-    ensures durable { OnOk result (D.is_lawful device.old → IsDurable (D.state device.old) → IsDurable (D.state device.new)) }
+    requires { region.at + region.len + 1 ≤ (D.view device.old).capacity }
+    ensures device { Calls D.view result device.old device.new }
+    ensures crash_safe { (D.view device.old).lawful → IsSettled region (D.view device.old).state
+        → CrashSafe (Closes region) (D.view device.old).state (D.view device.new).state }
+    ensures closed { OnOk result ((D.view device.old).lawful → IsSettled region (D.view device.old).state
+        → IsClosed region (D.view device.new).state) }
+    ensures gate { OnOk result ((D.view device.old).lawful
+        → gate_of region (D.view device.new).state.bytes ≡ closed_byte (gate_of region (D.view device.old).state.bytes)) }
+    ensures durable { OnOk result ((D.view device.old).lawful → IsDurable (D.view device.old).state → IsDurable (D.view device.new).state) }
 {
     // The answer fits a u64, and so does the place of the gate.
     let _size = device.size();
@@ -69,15 +68,13 @@ fn close_gate<D: Disk>(region: Region, device: &mut D) -> Result<(), Fault>
 
 /// Writes a payload before a closed gate.
 fn fill_payload<D: Disk>(region: Region, device: &mut D, payload: &[u8]) -> Result<(), Fault>
-    requires room { region.at + region.len + 1 ≤ D.capacity device.old }
+    requires room { region.at + region.len + 1 ≤ (D.view device.old).capacity }
     requires len { length payload.now ≡ region.len }
-    ensures size { D.capacity device.new ≡ D.capacity device.old }
-    ensures cause { CountsFailures result (D.failures device.old) (D.failures device.new) }
-    ensures lawful { D.is_lawful device.old ↔ D.is_lawful device.new }
-    ensures crash_safe { D.is_lawful device.old → IsClosed region (D.state device.old)
-        → CrashSafe (Fills region) (D.state device.old) (D.state device.new) }
-    ensures filled { OnOk result (D.is_lawful device.old → IsClosed region (D.state device.old)
-        → IsFilled region payload.now (D.state device.new)) }
+    ensures device { Calls D.view result device.old device.new }
+    ensures crash_safe { (D.view device.old).lawful → IsClosed region (D.view device.old).state
+        → CrashSafe (Fills region) (D.view device.old).state (D.view device.new).state }
+    ensures filled { OnOk result ((D.view device.old).lawful → IsClosed region (D.view device.old).state
+        → IsFilled region payload.now (D.view device.new).state) }
 {
     write_and_sync(device, region.at, payload)
 }
@@ -87,25 +84,23 @@ impl Region {
     /// written: torn, that write could read open over a torn payload. It refuses `Device` alone,
     /// and then hands the disk back.
     pub fn close<'a, D: Disk>(&self, device: &'a mut D) -> Result<Closed<'a, D>, (Fault, &'a mut D)>
-        requires { self.now.at + self.now.len + 1 ≤ D.capacity device.old }
+        requires { self.now.at + self.now.len + 1 ≤ (D.view device.old).capacity }
         ensures same_reference { IfOk result (λ closed. (closed_disk closed).ghost_name ≡ device.entry.ghost_name) }
         ensures same_back { IfErr result (λ back. back.1.ghost_name ≡ device.entry.ghost_name) }
         ensures region { IfOk result (λ closed. closed_region closed ≡ self.now) }
-        ensures step { IfOk result (λ closed. KeepsDisk D.capacity D.failures D.is_lawful device.old (closed_disk closed).now) }
-        ensures step_back { IfErr result (λ back. KeepsDisk D.capacity D.failures D.is_lawful device.old back.1.now) }
-        ensures device { IfErr result (λ back. Rises (D.failures device.old) (D.failures back.1.now)) }
-        ensures no_failure { IfOk result (λ closed. D.failures (closed_disk closed).now ≡ D.failures device.old) }
-        ensures crash_safe { IfOk result (λ closed. D.is_lawful device.old
-            → IsSettled self.now (D.state device.old)
-            → CrashSafe (Closes self.now) (D.state device.old) (D.state (closed_disk closed).now)) }
-        ensures crash_safe_back { IfErr result (λ back. D.is_lawful device.old
-            → IsSettled self.now (D.state device.old)
-            → CrashSafe (Closes self.now) (D.state device.old) (D.state back.1.now)) }
-        ensures closed { IfOk result (λ closed. D.is_lawful device.old
-            → IsSettled self.now (D.state device.old)
-            → IsClosed self.now (D.state (closed_disk closed).now)) }
-        ensures gate { IfOk result (λ closed. D.is_lawful device.old
-            → gate_of self.now (D.state (closed_disk closed).now).bytes ≡ closed_byte (gate_of self.now (D.state device.old).bytes)) }
+        ensures kept { IfOk result (λ closed. IsKept D.view device.old (closed_disk closed).now) }
+        ensures failed { IfErr result (λ back. HasFailed D.view device.old back.1.now) }
+        ensures crash_safe { IfOk result (λ closed. (D.view device.old).lawful
+            → IsSettled self.now (D.view device.old).state
+            → CrashSafe (Closes self.now) (D.view device.old).state (D.view (closed_disk closed).now).state) }
+        ensures crash_safe_back { IfErr result (λ back. (D.view device.old).lawful
+            → IsSettled self.now (D.view device.old).state
+            → CrashSafe (Closes self.now) (D.view device.old).state (D.view back.1.now).state) }
+        ensures closed { IfOk result (λ closed. (D.view device.old).lawful
+            → IsSettled self.now (D.view device.old).state
+            → IsClosed self.now (D.view (closed_disk closed).now).state) }
+        ensures gate { IfOk result (λ closed. (D.view device.old).lawful
+            → gate_of self.now (D.view (closed_disk closed).now).state.bytes ≡ closed_byte (gate_of self.now (D.view device.old).state.bytes)) }
     {
         let region = *self;
         match close_gate(region, device) {
@@ -117,17 +112,15 @@ impl Region {
     /// Closes the gate as `close` does, for good: no payload is to follow, and no state is handed on. It refuses `Device` alone.
     /// It is a call of its own, since what the disk is after a state was dropped could not be said by `close`.
     pub fn shut<D: Disk>(&self, device: &mut D) -> Result<(), Fault>
-        requires { self.now.at + self.now.len + 1 ≤ D.capacity device.old }
-        ensures size { D.capacity device.new ≡ D.capacity device.old }
-        ensures cause { CountsFailures result (D.failures device.old) (D.failures device.new) }
-        ensures lawful { D.is_lawful device.old ↔ D.is_lawful device.new }
-        ensures crash_safe { D.is_lawful device.old → IsSettled self.now (D.state device.old)
-            → CrashSafe (Closes self.now) (D.state device.old) (D.state device.new) }
-        ensures closed { OnOk result (D.is_lawful device.old → IsSettled self.now (D.state device.old)
-            → IsClosed self.now (D.state device.new)) }
-        ensures gate { OnOk result (D.is_lawful device.old
-            → gate_of self.now (D.state device.new).bytes ≡ closed_byte (gate_of self.now (D.state device.old).bytes)) }
-        ensures durable { OnOk result (D.is_lawful device.old → IsDurable (D.state device.old) → IsDurable (D.state device.new)) }
+        requires { self.now.at + self.now.len + 1 ≤ (D.view device.old).capacity }
+        ensures device { Calls D.view result device.old device.new }
+        ensures crash_safe { (D.view device.old).lawful → IsSettled self.now (D.view device.old).state
+            → CrashSafe (Closes self.now) (D.view device.old).state (D.view device.new).state }
+        ensures closed { OnOk result ((D.view device.old).lawful → IsSettled self.now (D.view device.old).state
+            → IsClosed self.now (D.view device.new).state) }
+        ensures gate { OnOk result ((D.view device.old).lawful
+            → gate_of self.now (D.view device.new).state.bytes ≡ closed_byte (gate_of self.now (D.view device.old).state.bytes)) }
+        ensures durable { OnOk result ((D.view device.old).lawful → IsDurable (D.view device.old).state → IsDurable (D.view device.new).state) }
     {
         close_gate(*self, device)
     }
@@ -135,17 +128,15 @@ impl Region {
     /// Opens the gate, by a write and a sync, so that what stands before it counts: where every image has the gate closed and this
     /// payload before it, a crash leaves the region closed or open with the payload. It refuses `Device` alone.
     pub fn uncover<D: Disk>(&self, device: &mut D) -> Result<(), Fault>
-        requires room { self.now.at + self.now.len + 1 ≤ D.capacity device.old }
-        ensures size { D.capacity device.new ≡ D.capacity device.old }
-        ensures cause { CountsFailures result (D.failures device.old) (D.failures device.new) }
-        ensures lawful { D.is_lawful device.old ↔ D.is_lawful device.new }
-        ensures crash_safe { D.is_lawful device.old → (payload : List ℕ)
-            → IsFilled self.now payload (D.state device.old)
-            → CrashSafe (Opens self.now payload) (D.state device.old) (D.state device.new) }
-        ensures open { OnOk result (D.is_lawful device.old → (payload : List ℕ)
-            → IsFilled self.now payload (D.state device.old)
-            → IsOpen self.now payload (D.state device.new)) }
-        ensures durable { OnOk result (D.is_lawful device.old → IsDurable (D.state device.new)) }
+        requires room { self.now.at + self.now.len + 1 ≤ (D.view device.old).capacity }
+        ensures device { Calls D.view result device.old device.new }
+        ensures crash_safe { (D.view device.old).lawful → (payload : List ℕ)
+            → IsFilled self.now payload (D.view device.old).state
+            → CrashSafe (Opens self.now payload) (D.view device.old).state (D.view device.new).state }
+        ensures open { OnOk result ((D.view device.old).lawful → (payload : List ℕ)
+            → IsFilled self.now payload (D.view device.old).state
+            → IsOpen self.now payload (D.view device.new).state) }
+        ensures durable { OnOk result ((D.view device.old).lawful → IsDurable (D.view device.new).state) }
     {
         // The answer fits a u64, and so does the place of the gate.
         let _size = device.size();
@@ -160,31 +151,29 @@ impl Region {
     /// Of a region that is not settled nothing is promised but size, failures and lawfulness. After a failed put it is not
     /// settled, and a sync that succeeds settles every region. So after a put that succeeded the disk is durable in either case.
     pub fn put<D: Disk>(&self, device: &mut D, payload: &[u8]) -> Result<(), Fault>
-        requires room { self.now.at + self.now.len + 1 ≤ D.capacity device.old }
+        requires room { self.now.at + self.now.len + 1 ≤ (D.view device.old).capacity }
         requires len { length payload.now ≡ self.now.len }
-        ensures size { D.capacity device.new ≡ D.capacity device.old }
-        ensures cause { CountsFailures result (D.failures device.old) (D.failures device.new) }
-        ensures lawful { D.is_lawful device.old ↔ D.is_lawful device.new }
+        ensures device { Calls D.view result device.old device.new }
 
         // Each image since the start of the call, by the image before from which it came.
-        ensures crash_safe { D.is_lawful device.old → IsSettled self.now (D.state device.old)
-            → CrashSafe (Puts self.now payload.now) (D.state device.old) (D.state device.new) }
+        ensures crash_safe { (D.view device.old).lawful → IsSettled self.now (D.view device.old).state
+            → CrashSafe (Puts self.now payload.now) (D.view device.old).state (D.view device.new).state }
 
         // In each of them this region is as it was read, closed, or open with the new payload,
-        ensures region { D.is_lawful device.old → IsSettled self.now (D.state device.old)
-            → (c : List ℕ) → (D.state device.new).since (D.state device.old).moment c
-            → (opened self.now c ≡ opened self.now (D.state device.old).bytes) ⊎ ((opened self.now c ≡ None) ⊎ (opened self.now c ≡ Some payload.now)) }
+        ensures region { (D.view device.old).lawful → IsSettled self.now (D.view device.old).state
+            → (c : List ℕ) → (D.view device.new).state.since (D.view device.old).state.moment c
+            → (opened self.now c ≡ opened self.now (D.view device.old).state.bytes) ⊎ ((opened self.now c ≡ None) ⊎ (opened self.now c ≡ Some payload.now)) }
 
         // and each other settled region is as it was.
-        ensures others { D.is_lawful device.old → IsSettled self.now (D.state device.old)
-            → (s : AnyRegion) → Apart self.now s → IsSettled s (D.state device.old)
-            → KeepsRegion s (D.state device.old) (D.state device.new) }
+        ensures others { (D.view device.old).lawful → IsSettled self.now (D.view device.old).state
+            → (s : AnyRegion) → Apart self.now s → IsSettled s (D.view device.old).state
+            → KeepsRegion s (D.view device.old).state (D.view device.new).state }
 
-        ensures open { OnOk result (D.is_lawful device.old → IsSettled self.now (D.state device.old)
-            → IsOpen self.now payload.now (D.state device.new)) }
+        ensures open { OnOk result ((D.view device.old).lawful → IsSettled self.now (D.view device.old).state
+            → IsOpen self.now payload.now (D.view device.new).state) }
 
         // Whether the region was settled or not, a crash then leaves what is read.
-        ensures durable { OnOk result (D.is_lawful device.old → IsDurable (D.state device.new)) }
+        ensures durable { OnOk result ((D.view device.old).lawful → IsDurable (D.view device.new).state) }
     {
         self.close_fill_open(device, payload)
     }
@@ -192,16 +181,14 @@ impl Region {
     /// The three steps of a put. They stand apart from `put` since its clauses on every image and
     /// on other regions follow from those here.
     fn close_fill_open<D: Disk>(&self, device: &mut D, payload: &[u8]) -> Result<(), Fault>
-        requires room { self.now.at + self.now.len + 1 ≤ D.capacity device.old }
+        requires room { self.now.at + self.now.len + 1 ≤ (D.view device.old).capacity }
         requires len { length payload.now ≡ self.now.len }
-        ensures size { D.capacity device.new ≡ D.capacity device.old }
-        ensures cause { CountsFailures result (D.failures device.old) (D.failures device.new) }
-        ensures lawful { D.is_lawful device.old ↔ D.is_lawful device.new }
-        ensures crash_safe { D.is_lawful device.old → IsSettled self.now (D.state device.old)
-            → CrashSafe (Puts self.now payload.now) (D.state device.old) (D.state device.new) }
-        ensures open { OnOk result (D.is_lawful device.old → IsSettled self.now (D.state device.old)
-            → IsOpen self.now payload.now (D.state device.new)) }
-        ensures durable { OnOk result (D.is_lawful device.old → IsDurable (D.state device.new)) }
+        ensures device { Calls D.view result device.old device.new }
+        ensures crash_safe { (D.view device.old).lawful → IsSettled self.now (D.view device.old).state
+            → CrashSafe (Puts self.now payload.now) (D.view device.old).state (D.view device.new).state }
+        ensures open { OnOk result ((D.view device.old).lawful → IsSettled self.now (D.view device.old).state
+            → IsOpen self.now payload.now (D.view device.new).state) }
+        ensures durable { OnOk result ((D.view device.old).lawful → IsDurable (D.view device.new).state) }
     {
         let closed = match self.close(device) {
             Ok(closed) => closed,
@@ -222,24 +209,22 @@ impl<'a, D: Disk> Closed<'a, D> {
     /// Writes the payload before the closed gate, by a write and a sync. It refuses `Device` alone,
     /// and then hands the disk back.
     pub fn fill(self, payload: &[u8]) -> Result<Filled<'a, D>, (Fault, &'a mut D)>
-        requires room { (closed_region self).at + (closed_region self).len + 1 ≤ D.capacity (closed_disk self).now }
+        requires room { (closed_region self).at + (closed_region self).len + 1 ≤ (D.view (closed_disk self).now).capacity }
         requires len { length payload.now ≡ (closed_region self).len }
         ensures same_reference { IfOk result (λ filled. (filled_disk filled).ghost_name ≡ (closed_disk self.entry).ghost_name) }
         ensures same_back { IfErr result (λ back. back.1.ghost_name ≡ (closed_disk self.entry).ghost_name) }
         ensures region { IfOk result (λ filled. filled_region filled ≡ closed_region self.entry) }
-        ensures step { IfOk result (λ filled. KeepsDisk D.capacity D.failures D.is_lawful (closed_disk self.entry).now (filled_disk filled).now) }
-        ensures step_back { IfErr result (λ back. KeepsDisk D.capacity D.failures D.is_lawful (closed_disk self.entry).now back.1.now) }
-        ensures device { IfErr result (λ back. Rises (D.failures (closed_disk self.entry).now) (D.failures back.1.now)) }
-        ensures no_failure { IfOk result (λ filled. D.failures (filled_disk filled).now ≡ D.failures (closed_disk self.entry).now) }
-        ensures crash_safe { IfOk result (λ filled. D.is_lawful (closed_disk self.entry).now
-            → IsClosed (closed_region self.entry) (D.state (closed_disk self.entry).now)
-            → CrashSafe (Fills (closed_region self.entry)) (D.state (closed_disk self.entry).now) (D.state (filled_disk filled).now)) }
-        ensures crash_safe_back { IfErr result (λ back. D.is_lawful (closed_disk self.entry).now
-            → IsClosed (closed_region self.entry) (D.state (closed_disk self.entry).now)
-            → CrashSafe (Fills (closed_region self.entry)) (D.state (closed_disk self.entry).now) (D.state back.1.now)) }
-        ensures filled { IfOk result (λ filled. D.is_lawful (closed_disk self.entry).now
-            → IsClosed (closed_region self.entry) (D.state (closed_disk self.entry).now)
-            → IsFilled (closed_region self.entry) payload.now (D.state (filled_disk filled).now)) }
+        ensures kept { IfOk result (λ filled. IsKept D.view (closed_disk self.entry).now (filled_disk filled).now) }
+        ensures failed { IfErr result (λ back. HasFailed D.view (closed_disk self.entry).now back.1.now) }
+        ensures crash_safe { IfOk result (λ filled. (D.view (closed_disk self.entry).now).lawful
+            → IsClosed (closed_region self.entry) (D.view (closed_disk self.entry).now).state
+            → CrashSafe (Fills (closed_region self.entry)) (D.view (closed_disk self.entry).now).state (D.view (filled_disk filled).now).state) }
+        ensures crash_safe_back { IfErr result (λ back. (D.view (closed_disk self.entry).now).lawful
+            → IsClosed (closed_region self.entry) (D.view (closed_disk self.entry).now).state
+            → CrashSafe (Fills (closed_region self.entry)) (D.view (closed_disk self.entry).now).state (D.view back.1.now).state) }
+        ensures filled { IfOk result (λ filled. (D.view (closed_disk self.entry).now).lawful
+            → IsClosed (closed_region self.entry) (D.view (closed_disk self.entry).now).state
+            → IsFilled (closed_region self.entry) payload.now (D.view (filled_disk filled).now).state) }
     {
         let Closed { region, device } = self;
         match fill_payload(region, device, payload) {
@@ -252,26 +237,24 @@ impl<'a, D: Disk> Closed<'a, D> {
 impl<'a, D: Disk> Filled<'a, D> {
     /// Opens the gate, by a write and a sync, and hands the disk back. It refuses `Device` alone.
     pub fn open(self) -> Result<&'a mut D, (Fault, &'a mut D)>
-        requires room { (filled_region self).at + (filled_region self).len + 1 ≤ D.capacity (filled_disk self).now }
+        requires room { (filled_region self).at + (filled_region self).len + 1 ≤ (D.view (filled_disk self).now).capacity }
         ensures same_reference { IfOk result (λ back. back.ghost_name ≡ (filled_disk self.entry).ghost_name) }
         ensures same_back { IfErr result (λ back. back.1.ghost_name ≡ (filled_disk self.entry).ghost_name) }
-        ensures step { IfOk result (λ back. KeepsDisk D.capacity D.failures D.is_lawful (filled_disk self.entry).now back.now) }
-        ensures step_back { IfErr result (λ back. KeepsDisk D.capacity D.failures D.is_lawful (filled_disk self.entry).now back.1.now) }
-        ensures device { IfErr result (λ back. Rises (D.failures (filled_disk self.entry).now) (D.failures back.1.now)) }
-        ensures no_failure { IfOk result (λ back. D.failures back.now ≡ D.failures (filled_disk self.entry).now) }
-        ensures crash_safe { IfOk result (λ back. D.is_lawful (filled_disk self.entry).now
+        ensures kept { IfOk result (λ back. IsKept D.view (filled_disk self.entry).now back.now) }
+        ensures failed { IfErr result (λ back. HasFailed D.view (filled_disk self.entry).now back.1.now) }
+        ensures crash_safe { IfOk result (λ back. (D.view (filled_disk self.entry).now).lawful
             → (payload : List ℕ)
-            → IsFilled (filled_region self.entry) payload (D.state (filled_disk self.entry).now)
-            → CrashSafe (Opens (filled_region self.entry) payload) (D.state (filled_disk self.entry).now) (D.state back.now)) }
-        ensures crash_safe_back { IfErr result (λ back. D.is_lawful (filled_disk self.entry).now
+            → IsFilled (filled_region self.entry) payload (D.view (filled_disk self.entry).now).state
+            → CrashSafe (Opens (filled_region self.entry) payload) (D.view (filled_disk self.entry).now).state (D.view back.now).state) }
+        ensures crash_safe_back { IfErr result (λ back. (D.view (filled_disk self.entry).now).lawful
             → (payload : List ℕ)
-            → IsFilled (filled_region self.entry) payload (D.state (filled_disk self.entry).now)
-            → CrashSafe (Opens (filled_region self.entry) payload) (D.state (filled_disk self.entry).now) (D.state back.1.now)) }
-        ensures open { IfOk result (λ back. D.is_lawful (filled_disk self.entry).now
+            → IsFilled (filled_region self.entry) payload (D.view (filled_disk self.entry).now).state
+            → CrashSafe (Opens (filled_region self.entry) payload) (D.view (filled_disk self.entry).now).state (D.view back.1.now).state) }
+        ensures open { IfOk result (λ back. (D.view (filled_disk self.entry).now).lawful
             → (payload : List ℕ)
-            → IsFilled (filled_region self.entry) payload (D.state (filled_disk self.entry).now)
-            → IsOpen (filled_region self.entry) payload (D.state back.now)) }
-        ensures durable { IfOk result (λ back. D.is_lawful (filled_disk self.entry).now → IsDurable (D.state back.now)) }
+            → IsFilled (filled_region self.entry) payload (D.view (filled_disk self.entry).now).state
+            → IsOpen (filled_region self.entry) payload (D.view back.now).state) }
+        ensures durable { IfOk result (λ back. (D.view (filled_disk self.entry).now).lawful → IsDurable (D.view back.now).state) }
     {
         let Filled { region, device } = self;
         match region.uncover(device) {

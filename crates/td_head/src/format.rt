@@ -1,6 +1,7 @@
 // What a format begins with: zeros over all parts of a disk.
 ghost use Rattle.std.specs.Prelude.{◌≡◌, ◌≢◌, ◌↔◌, ◌+◌, ◌≤◌, false, slice_index, OnOk, IfOk};
-ghost use Rattle.td_disk.specs.Disk.{CountsFailures, IsDurable, SameOutside};
+ghost use Rattle.td_disk.specs.Calls.{Calls};
+ghost use Rattle.td_disk.specs.Disk.{IsDurable, SameOutside};
 ghost use Rattle.td_gate.specs.Region.{gate_of};
 ghost use Rattle.td_head.specs.Images.{IsZero};
 ghost use Rattle.td_head.specs.Layout.{head_a, head_b, size_of};
@@ -11,15 +12,13 @@ use td_gate::OPEN;
 
 /// Writes 00 to a gate that reads open, without a sync, and answers whether it did.
 fn write_closed<D: Disk>(device: &mut D, gate: u64) -> Result<bool, Fault>
-    requires { gate + 1 ≤ D.capacity device.old }
-    ensures cause { CountsFailures result (D.failures device.old) (D.failures device.new) }
-    ensures size { D.capacity device.new ≡ D.capacity device.old }
-    ensures lawful { D.is_lawful device.old ↔ D.is_lawful device.new }
-    ensures closed { OnOk result (D.is_lawful device.old → slice_index (D.state device.new).bytes gate ≢ 0xA5) }
-    ensures others { OnOk result (D.is_lawful device.old
-        → SameOutside gate 1 (D.state device.old).bytes (D.state device.new).bytes) }
+    requires { gate + 1 ≤ (D.view device.old).capacity }
+    ensures device { Calls D.view result device.old device.new }
+    ensures closed { OnOk result ((D.view device.old).lawful → slice_index (D.view device.new).state.bytes gate ≢ 0xA5) }
+    ensures others { OnOk result ((D.view device.old).lawful
+        → SameOutside gate 1 (D.view device.old).state.bytes (D.view device.new).state.bytes) }
     ensures durable { IfOk result (λ is_written. is_written ≡ false
-        → D.is_lawful device.old → IsDurable (D.state device.old) → IsDurable (D.state device.new)) }
+        → (D.view device.old).lawful → IsDurable (D.view device.old).state → IsDurable (D.view device.new).state) }
 {
     let mut byte = [0];
     device.read(gate, &mut byte)?;
@@ -33,16 +32,14 @@ fn write_closed<D: Disk>(device: &mut D, gate: u64) -> Result<bool, Fault>
 
 /// Closes the gates of both heads, where they read open, and syncs where it closed one.
 fn close_heads<D: Disk>(device: &mut D) -> Result<(), Fault>
-    requires { 8258 ≤ D.capacity device.old }
-    ensures cause { CountsFailures result (D.failures device.old) (D.failures device.new) }
-    ensures size { D.capacity device.new ≡ D.capacity device.old }
-    ensures lawful { D.is_lawful device.old ↔ D.is_lawful device.new }
-    ensures first { OnOk result (D.is_lawful device.old → gate_of head_a (D.state device.new).bytes ≢ 0xA5) }
-    ensures second { OnOk result (D.is_lawful device.old → gate_of head_b (D.state device.new).bytes ≢ 0xA5) }
-    ensures others { OnOk result (D.is_lawful device.old
-        → SameOutside 0 8258 (D.state device.old).bytes (D.state device.new).bytes) }
-    ensures durable { OnOk result (D.is_lawful device.old
-        → IsDurable (D.state device.old) → IsDurable (D.state device.new)) }
+    requires { 8258 ≤ (D.view device.old).capacity }
+    ensures device { Calls D.view result device.old device.new }
+    ensures first { OnOk result ((D.view device.old).lawful → gate_of head_a (D.view device.new).state.bytes ≢ 0xA5) }
+    ensures second { OnOk result ((D.view device.old).lawful → gate_of head_b (D.view device.new).state.bytes ≢ 0xA5) }
+    ensures others { OnOk result ((D.view device.old).lawful
+        → SameOutside 0 8258 (D.view device.old).state.bytes (D.view device.new).state.bytes) }
+    ensures durable { OnOk result ((D.view device.old).lawful
+        → IsDurable (D.view device.old).state → IsDurable (D.view device.new).state) }
 {
     let is_first = write_closed(device, HEAD_LEN)?;
     let is_second = write_closed(device, 2 * HEAD_LEN + 1)?;
@@ -58,14 +55,12 @@ fn close_heads<D: Disk>(device: &mut D) -> Result<(), Fault>
 /// The gates of the heads alone are closed first: a disk whose format was stopped reads as not formatted, and nothing is promised
 /// of it. Zeros are written from the stack, in 25 million calls on the largest disk, of 103 GB.
 pub fn wipe<D: Disk>(device: &mut D, shape: Shape) -> Result<(), Fault>
-    requires { size_of shape ≤ D.capacity device.old }
-    ensures cause { CountsFailures result (D.failures device.old) (D.failures device.new) }
-    ensures size { D.capacity device.new ≡ D.capacity device.old }
-    ensures lawful { D.is_lawful device.old ↔ D.is_lawful device.new }
-    ensures zero { OnOk result (D.is_lawful device.old → IsZero (size_of shape) (D.state device.new).bytes) }
-    ensures others { OnOk result (D.is_lawful device.old
-        → SameOutside 0 (size_of shape) (D.state device.old).bytes (D.state device.new).bytes) }
-    ensures durable { OnOk result (D.is_lawful device.old → IsDurable (D.state device.new)) }
+    requires { size_of shape ≤ (D.view device.old).capacity }
+    ensures device { Calls D.view result device.old device.new }
+    ensures zero { OnOk result ((D.view device.old).lawful → IsZero (size_of shape) (D.view device.new).state.bytes) }
+    ensures others { OnOk result ((D.view device.old).lawful
+        → SameOutside 0 (size_of shape) (D.view device.old).state.bytes (D.view device.new).state.bytes) }
+    ensures durable { OnOk result ((D.view device.old).lawful → IsDurable (D.view device.new).state) }
 {
     let bytes = shape.bytes();
     let _size = device.size();

@@ -108,13 +108,13 @@ fn told(alloc: Global, plan: &Plan, size: u64, side: u8, payload: &[u8]) -> Resu
 /// The payload of head A (side 0) or B (1), where it is open and begins as a head.
 fn counted<D: Disk>(alloc: Global, device: &mut D, side: u8) -> Result<Option<Vec<u8>>, HeadError>
     requires which { side ≤ 1 }
-    requires room { 8258 ≤ D.capacity device.old }
-    ensures told { IfOk result (λ p. D.is_lawful device.old
-        → candidate side (opened (head side) (D.state device.old).bytes) ≡ fields_of side p) }
+    requires room { 8258 ≤ (D.view device.old).capacity }
+    ensures told { IfOk result (λ p. (D.view device.old).lawful
+        → candidate side (opened (head side) (D.view device.old).state.bytes) ≡ fields_of side p) }
     ensures len { IfOk result (λ p. HasLength p 4128) }
     ensures refusals { IfErr result (λ e. (e ≡ HeadError.Device) ⊎ (e ≡ HeadError.Memory)) }
-    ensures failures { CountsDevice result HeadError.Device (D.failures device.old) (D.failures device.new) }
-    ensures read { IsRead D.capacity D.is_lawful D.state device.old device.new }
+    ensures failures { CountsDevice result HeadError.Device (D.view device.old).failures (D.view device.new).failures }
+    ensures read { IsRead D.view device.old device.new }
 {
     let head = head_region(side);
     let Some(payload) = head.get(alloc, device)? else {
@@ -150,12 +150,12 @@ fn later(first: Option<Vec<u8>>, second: Option<Vec<u8>>) -> Option<(u8, Vec<u8>
 /// The head that a disk has for a plan. It refuses `NotFormatted`, `Damaged`, `WrongPlan`, `Device` and `Memory`. It
 /// reads each head once.
 pub fn read<D: Disk>(alloc: Global, device: &mut D, plan: &Plan) -> Result<Head, HeadError>
-    ensures told { IfOk result (λ h. D.is_lawful device.old → IsHeaded plan.now (D.state device.old).bytes (Headed h)) }
-    ensures fits { IfOk result (λ h. size_of h.shape ≤ D.capacity device.old) }
-    ensures refused { IfErr result (λ e. (e ≡ HeadError.Device) ⊎ ((e ≡ HeadError.Memory) ⊎ (D.is_lawful device.old
-        → IsHeaded plan.now (D.state device.old).bytes (Refused e)))) }
-    ensures failures { CountsDevice result HeadError.Device (D.failures device.old) (D.failures device.new) }
-    ensures read { IsRead D.capacity D.is_lawful D.state device.old device.new }
+    ensures told { IfOk result (λ h. (D.view device.old).lawful → IsHeaded plan.now (D.view device.old).state.bytes (Headed h)) }
+    ensures fits { IfOk result (λ h. size_of h.shape ≤ (D.view device.old).capacity) }
+    ensures refused { IfErr result (λ e. (e ≡ HeadError.Device) ⊎ ((e ≡ HeadError.Memory) ⊎ ((D.view device.old).lawful
+        → IsHeaded plan.now (D.view device.old).state.bytes (Refused e)))) }
+    ensures failures { CountsDevice result HeadError.Device (D.view device.old).failures (D.view device.new).failures }
+    ensures read { IsRead D.view device.old device.new }
 {
     td_plan::laws::one_answer();
     td_gate::laws::reads_in_turn::<D>();

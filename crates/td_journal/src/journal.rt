@@ -1,5 +1,6 @@
 //! A ring of cells.
 ghost use Rattle.std.specs.Prelude.{◌≡◌, ◌⊎◌, ◌↔◌, ◌+◌, ◌-◌, ◌^◌, ◌<◌, ◌≤◌, length, true, All, OnOk, IfOk, IfErr, IfSome, IsErrOf, IsTrue};
+ghost use Rattle.td_disk.specs.Calls.{KeepsDevice};
 ghost use Rattle.td_disk.specs.Disk.{CountsDevice, IsDurable};
 ghost use Rattle.td_gate.specs.CrashSafe.{CrashSafe, Unchanged};
 ghost use Rattle.td_gate.specs.Reads.{IsRead};
@@ -90,21 +91,19 @@ impl Journal {
     ) -> Result<(), JournalError>
         requires cells { 0 < self.now.n }
         requires records { self.now.m ≤ 65536 }
-        requires room { self.now.at + ring_len self.now.m self.now.n ≤ D.capacity device.old }
+        requires room { self.now.at + ring_len self.now.m self.now.n ≤ (D.view device.old).capacity }
         ensures refusals { IfErr result (λ e. (e ≡ JournalError.Memory) ⊎ (e ≡ JournalError.Device)) }
-        ensures failures { CountsDevice result JournalError.Device (D.failures device.old) (D.failures device.new) }
-        ensures size { D.capacity device.new ≡ D.capacity device.old }
-        ensures lawful { D.is_lawful device.old ↔ D.is_lawful device.new }
-        ensures crash_safe { D.is_lawful device.old → IsSettled (cell_of self.now epoch) (D.state device.old)
-            → CrashSafe (Clears self.now epoch) (D.state device.old) (D.state device.new) }
-        ensures unwritten { IsErrOf result JournalError.Memory → D.is_lawful device.old
-            → CrashSafe Unchanged (D.state device.old) (D.state device.new) }
-        ensures same { IsErrOf result JournalError.Memory → D.is_lawful device.old
-            → (D.state device.new).bytes ≡ (D.state device.old).bytes }
-        ensures durable { IfErr result (λ e. e ≡ JournalError.Memory) → D.is_lawful device.old
-            → IsDurable (D.state device.old) → IsDurable (D.state device.new) }
-        ensures gone { OnOk result (D.is_lawful device.old → IsSettled (cell_of self.now epoch) (D.state device.old)
-            → IsGone self.now epoch (D.state device.new)) }
+        ensures device { KeepsDevice D.view JournalError.Device result device.old device.new }
+        ensures crash_safe { (D.view device.old).lawful → IsSettled (cell_of self.now epoch) (D.view device.old).state
+            → CrashSafe (Clears self.now epoch) (D.view device.old).state (D.view device.new).state }
+        ensures unwritten { IsErrOf result JournalError.Memory → (D.view device.old).lawful
+            → CrashSafe Unchanged (D.view device.old).state (D.view device.new).state }
+        ensures same { IsErrOf result JournalError.Memory → (D.view device.old).lawful
+            → (D.view device.new).state.bytes ≡ (D.view device.old).state.bytes }
+        ensures durable { IfErr result (λ e. e ≡ JournalError.Memory) → (D.view device.old).lawful
+            → IsDurable (D.view device.old).state → IsDurable (D.view device.new).state }
+        ensures gone { OnOk result ((D.view device.old).lawful → IsSettled (cell_of self.now epoch) (D.view device.old).state
+            → IsGone self.now epoch (D.view device.new).state) }
     {
         if EPOCHS_END <= epoch {
             return Ok(());
@@ -135,15 +134,15 @@ impl Journal {
     ) -> Result<Option<K::Kept>, JournalError>
         requires cells { 0 < self.now.n }
         requires records { self.now.m ≤ 65536 }
-        requires room { self.now.at + ring_len self.now.m self.now.n ≤ D.capacity device.old }
+        requires room { self.now.at + ring_len self.now.m self.now.n ≤ (D.view device.old).capacity }
         requires len { length bytes.old ≡ cell_len self.now.m + 1 }
         ensures found { IfOk result (λ kept. IsKept K.kept_of inputs.now
-            (λ f. D.is_lawful device.old → found inputs.now self.now (D.state device.old).bytes floor epoch ≡ f) kept) }
+            (λ f. (D.view device.old).lawful → found inputs.now self.now (D.view device.old).state.bytes floor epoch ≡ f) kept) }
         ensures small { IfOk result (λ kept. IfSome kept (λ _. epoch < 2 ^ 63)) }
-        ensures refused { IfErr result (λ e. (e ≡ JournalError.Device) ⊎ ((e ≡ JournalError.Memory) ⊎ (D.is_lawful device.old
-            → IsDamage e (found inputs.now self.now (D.state device.old).bytes floor epoch)))) }
-        ensures failures { CountsDevice result JournalError.Device (D.failures device.old) (D.failures device.new) }
-        ensures read { IsRead D.capacity D.is_lawful D.state device.old device.new }
+        ensures refused { IfErr result (λ e. (e ≡ JournalError.Device) ⊎ ((e ≡ JournalError.Memory) ⊎ ((D.view device.old).lawful
+            → IsDamage e (found inputs.now self.now (D.view device.old).state.bytes floor epoch)))) }
+        ensures failures { CountsDevice result JournalError.Device (D.view device.old).failures (D.view device.new).failures }
+        ensures read { IsRead D.view device.old device.new }
     {
         if EPOCHS_END <= epoch {
             return Ok(None);
@@ -178,16 +177,16 @@ impl Journal {
         requires cells { 0 < self.now.n }
         requires few { self.now.n ≤ 65536 }
         requires records { self.now.m ≤ 65536 }
-        requires room { self.now.at + ring_len self.now.m self.now.n ≤ D.capacity device.old }
+        requires room { self.now.at + ring_len self.now.m self.now.n ≤ (D.view device.old).capacity }
         requires small { checkpoint < 2 ^ 63 }
         ensures told { IfOk result (λ kept. AreKept K.kept_of inputs.now
-            (λ w. D.is_lawful device.old → told_after inputs.now self.now (D.state device.old).bytes floor checkpoint ≡ Told w) kept.items) }
+            (λ w. (D.view device.old).lawful → told_after inputs.now self.now (D.view device.old).state.bytes floor checkpoint ≡ Told w) kept.items) }
         ensures few_told { IfOk result (λ kept. length kept.items ≤ self.now.n) }
         ensures below { IfOk result (λ kept. checkpoint + length kept.items < 2 ^ 63) }
-        ensures refused { IfErr result (λ e. (e ≡ JournalError.Device) ⊎ ((e ≡ JournalError.Memory) ⊎ (D.is_lawful device.old
-            → told_after inputs.now self.now (D.state device.old).bytes floor checkpoint ≡ Refused e))) }
-        ensures failures { CountsDevice result JournalError.Device (D.failures device.old) (D.failures device.new) }
-        ensures read { IsRead D.capacity D.is_lawful D.state device.old device.new }
+        ensures refused { IfErr result (λ e. (e ≡ JournalError.Device) ⊎ ((e ≡ JournalError.Memory) ⊎ ((D.view device.old).lawful
+            → told_after inputs.now self.now (D.view device.old).state.bytes floor checkpoint ≡ Refused e))) }
+        ensures failures { CountsDevice result JournalError.Device (D.view device.old).failures (D.view device.new).failures }
+        ensures read { IsRead D.view device.old device.new }
     {
         td_gate::laws::reads_in_turn::<D>();
         let mut bytes = vec![in alloc; 0; FRONT_LEN + ENTRY_LEN * self.m as usize + 1]?;
@@ -226,18 +225,18 @@ impl Journal {
         requires cells { 0 < self.now.n }
         requires few { self.now.n ≤ 65536 }
         requires records { self.now.m ≤ 65536 }
-        requires room { self.now.at + ring_len self.now.m self.now.n ≤ D.capacity device.old }
+        requires room { self.now.at + ring_len self.now.m self.now.n ≤ (D.view device.old).capacity }
         requires small { checkpoint < 2 ^ 63 }
-        ensures told { IfOk result (λ w. D.is_lawful device.old → told_after inputs.now self.now (D.state device.old).bytes floor checkpoint ≡ Told w.items) }
+        ensures told { IfOk result (λ w. (D.view device.old).lawful → told_after inputs.now self.now (D.view device.old).state.bytes floor checkpoint ≡ Told w.items) }
 
         // Whatever the disk, what is read may be told: lawful batches, no more than cells, of epochs that are looked for.
         ensures batches { IfOk result (λ w. All (λ s. is_batch inputs.now s.batch ≡ true) w.items) }
         ensures few_told { IfOk result (λ w. length w.items ≤ self.now.n) }
         ensures below { IfOk result (λ w. checkpoint + length w.items < 2 ^ 63) }
-        ensures refused { IfErr result (λ e. (e ≡ JournalError.Device) ⊎ ((e ≡ JournalError.Memory) ⊎ (D.is_lawful device.old
-            → told_after inputs.now self.now (D.state device.old).bytes floor checkpoint ≡ Refused e))) }
-        ensures failures { CountsDevice result JournalError.Device (D.failures device.old) (D.failures device.new) }
-        ensures read { IsRead D.capacity D.is_lawful D.state device.old device.new }
+        ensures refused { IfErr result (λ e. (e ≡ JournalError.Device) ⊎ ((e ≡ JournalError.Memory) ⊎ ((D.view device.old).lawful
+            → told_after inputs.now self.now (D.view device.old).state.bytes floor checkpoint ≡ Refused e))) }
+        ensures failures { CountsDevice result JournalError.Device (D.view device.old).failures (D.view device.new).failures }
+        ensures read { IsRead D.view device.old device.new }
     {
         self.read_each::<Vec<Entry>, D>(alloc, device, inputs, checkpoint, floor)
     }
@@ -255,16 +254,16 @@ impl Journal {
         requires cells { 0 < self.now.n }
         requires few { self.now.n ≤ 65536 }
         requires records { self.now.m ≤ 65536 }
-        requires room { self.now.at + ring_len self.now.m self.now.n ≤ D.capacity device.old }
+        requires room { self.now.at + ring_len self.now.m self.now.n ≤ (D.view device.old).capacity }
         requires small { checkpoint < 2 ^ 63 }
         ensures told { IfOk result (λ counts. AreKept counts_of inputs.now
-            (λ w. D.is_lawful device.old → told_after inputs.now self.now (D.state device.old).bytes floor checkpoint ≡ Told w) counts.items) }
+            (λ w. (D.view device.old).lawful → told_after inputs.now self.now (D.view device.old).state.bytes floor checkpoint ≡ Told w) counts.items) }
         ensures few_told { IfOk result (λ counts. length counts.items ≤ self.now.n) }
         ensures below { IfOk result (λ counts. checkpoint + length counts.items < 2 ^ 63) }
-        ensures refused { IfErr result (λ e. (e ≡ JournalError.Device) ⊎ ((e ≡ JournalError.Memory) ⊎ (D.is_lawful device.old
-            → told_after inputs.now self.now (D.state device.old).bytes floor checkpoint ≡ Refused e))) }
-        ensures failures { CountsDevice result JournalError.Device (D.failures device.old) (D.failures device.new) }
-        ensures read { IsRead D.capacity D.is_lawful D.state device.old device.new }
+        ensures refused { IfErr result (λ e. (e ≡ JournalError.Device) ⊎ ((e ≡ JournalError.Memory) ⊎ ((D.view device.old).lawful
+            → told_after inputs.now self.now (D.view device.old).state.bytes floor checkpoint ≡ Refused e))) }
+        ensures failures { CountsDevice result JournalError.Device (D.view device.old).failures (D.view device.new).failures }
+        ensures read { IsRead D.view device.old device.new }
     {
         self.read_each::<Counting, D>(alloc, device, inputs, checkpoint, floor)
     }
@@ -295,24 +294,22 @@ impl Journal {
     ) -> Result<(), JournalError>
         requires cells { 0 < self.now.n }
         requires records { self.now.m ≤ 65536 }
-        requires room { self.now.at + ring_len self.now.m self.now.n ≤ D.capacity device.old }
+        requires room { self.now.at + ring_len self.now.m self.now.n ≤ (D.view device.old).capacity }
         requires later { self.now.kept < epoch }
         requires small { epoch < 2 ^ 63 }
         ensures full { IsErrOf result JournalError.Full ↔ (self.now.n < epoch - self.now.kept) }
         ensures too_many { IsErrOf result JournalError.TooManyRecords ↔ ((epoch - self.now.kept ≤ self.now.n) × (self.now.m < length batch.now)) }
         ensures refusals { IfErr result (λ e. (e ≡ JournalError.Full) ⊎ (e ≡ JournalError.TooManyRecords) ⊎ (e ≡ JournalError.Memory) ⊎ (e ≡ JournalError.Device)) }
         ensures untouched { IfErr result (λ e. (e ≡ JournalError.Device) ⊎ (device.new ≡ device.old)) }
-        ensures failures { CountsDevice result JournalError.Device (D.failures device.old) (D.failures device.new) }
-        ensures size { D.capacity device.new ≡ D.capacity device.old }
-        ensures lawful { D.is_lawful device.old ↔ D.is_lawful device.new }
+        ensures device { KeepsDevice D.view JournalError.Device result device.old device.new }
         ensures few { OnOk result (length batch.now ≤ self.now.m) }
 
         // Where it answers Ok or Device: each image since the start of the call, by the image before.
-        ensures crash_safe { D.is_lawful device.old → IsSettled (cell_of self.now epoch) (D.state device.old)
-            → CrashSafe (Puts (cell_of self.now epoch) (cell_bytes self.now.m epoch request batch.now)) (D.state device.old) (D.state device.new) }
-        ensures open { OnOk result (D.is_lawful device.old → IsSettled (cell_of self.now epoch) (D.state device.old)
-            → IsOpen (cell_of self.now epoch) (cell_bytes self.now.m epoch request batch.now) (D.state device.new)) }
-        ensures durable { OnOk result (D.is_lawful device.old → IsDurable (D.state device.new)) }
+        ensures crash_safe { (D.view device.old).lawful → IsSettled (cell_of self.now epoch) (D.view device.old).state
+            → CrashSafe (Puts (cell_of self.now epoch) (cell_bytes self.now.m epoch request batch.now)) (D.view device.old).state (D.view device.new).state }
+        ensures open { OnOk result ((D.view device.old).lawful → IsSettled (cell_of self.now epoch) (D.view device.old).state
+            → IsOpen (cell_of self.now epoch) (cell_bytes self.now.m epoch request batch.now) (D.view device.new).state) }
+        ensures durable { OnOk result ((D.view device.old).lawful → IsDurable (D.view device.new).state) }
     {
         if self.is_full(epoch) {
             return Err(JournalError::Full);

@@ -9,7 +9,7 @@ use Rattle.td_plan.specs.LookedUp.{IsLookedUp}
 use Rattle.td_plan.specs.Inputs.{is_input_of}
 use Rattle.td_journal.specs.Cell.{is_batch}
 use Rattle.td_machine.specs.Steps.{accepts}
-use Rattle.td_standing.specs.Told.{inputs_of}
+use Rattle.td_store.specs.standing.Told.{inputs_of}
 
 both : (a b : Bool) → (a && b) ≡ true → (a ≡ true) × (b ≡ true)
 both true b e = (refl, e)

@@ -10,15 +10,15 @@ use Rattle.td_plan.specs.Lines.{Line}
 use Rattle.td_plan.specs.Tree.{Nodes, tree_of}
 use Rattle.td_calls.specs.Answers.{Answers}
 use Rattle.td_batch.specs.Meaning.{run}
-use Rattle.td_disk.specs.Disk.{DiskState}
+use Rattle.td_disk.specs.Disk.{DiskView, DiskState}
 use Rattle.td_head.specs.declared.head.Head.{Head}
 use Rattle.td_journal.specs.declared.submitted.Submitted.{Submitted as AnySubmitted}
-use Rattle.td_standing.specs.Standing.{Standing, last_epoch, submission, batches_of, with_more, cut_at}
-use Rattle.td_standing.specs.Stops.{Begins, Advance, Stands}
-use Rattle.td_standing.specs.Tells.{Tells}
-use Rattle.td_standing.specs.Advanced.{HeldWhere, states_by}
-use Rattle.td_standing.specs.declared.error.KeeperError.{KeeperError}
-use Rattle.td_standing.specs.declared.error.KeeperError.TheVariants as error
+use Rattle.td_store.specs.standing.Standing.{Standing, last_epoch, submission, batches_of, with_more, cut_at}
+use Rattle.td_store.specs.standing.Stops.{Begins, Advance, Stands}
+use Rattle.td_store.specs.standing.Tells.{Tells}
+use Rattle.td_store.specs.standing.Advanced.{HeldWhere, states_by}
+use Rattle.td_store.specs.declared.standing.error.KeeperError.{KeeperError}
+use Rattle.td_store.specs.declared.standing.error.KeeperError.TheVariants as error
 use Rattle.td_keeper.specs.declared.group.GroupError.{GroupError}
 use Rattle.td_keeper.specs.declared.group.GroupError.TheVariants.{Keeper}
 use Rattle.td_keeper.specs.declared.command.Command.{Command}
@@ -174,8 +174,8 @@ module _ {D : Type 0} (answers : Answers) (submit_on : Submit-on answers) (cut_o
       by true is = inr (broke (is_of_device_is e is))
       by false is = inl refl
 
-module _ {D : Type 0} (is_lawful : D → Type 0) (state : D → DiskState) (failures : D → ℕ) (answers : Answers) (submit_on : Submit-on answers) (cut_on : Cut-on answers) (last : Last) where
-  submits : (batch : List Entry) (r : Reply) (old new : Keeping D) → Submits is_lawful state failures answers batch r old new → Comes answers (Submit batch) r old new
+module _ {D : Type 0} (view : D → DiskView) (answers : Answers) (submit_on : Submit-on answers) (cut_on : Cut-on answers) (last : Last) where
+  submits : (batch : List Entry) (r : Reply) (old new : Keeping D) → Submits view answers batch r old new → Comes answers (Submit batch) r old new
   submits batch (Submitted n) old new r =
       let goes = follow answers submit_on cut_on last (submission 0 batch ∷ []) old new r.submitted in
       let far = goes.last in
@@ -215,7 +215,7 @@ module _ {D : Type 0} (is_lawful : D → Type 0) (state : D → DiskState) (fail
   receives request batch (Already n) old new r =
       none_comes answers submit_on cut_on last (SubmitAs request batch) (SubmittedAs (Already n)) old new refl (inl refl) (ap (λ k. k.plan) r.2, ap (λ k. k.standing) r.2)
 
-  submits_as : (request : ℕ) (batch : List Entry) (r : Reply) (old new : Keeping D) → SubmitsAs is_lawful state failures answers request batch r old new → Comes answers (SubmitAs request batch) r old new
+  submits_as : (request : ℕ) (batch : List Entry) (r : Reply) (old new : Keeping D) → SubmitsAs view answers request batch r old new → Comes answers (SubmitAs request batch) r old new
   submits_as request batch (SubmittedAs receipt) old new r = receives request batch receipt old new r.received
   submits_as request batch (Refused e back) old new r =
       none_comes answers submit_on cut_on last (SubmitAs request batch) (Refused e back) old new refl
@@ -237,7 +237,7 @@ module _ {D : Type 0} (is_lawful : D → Type 0) (state : D → DiskState) (fail
   of_group [] old new is = stays answers submit_on cut_on last old new (ap (λ k. k.plan) is) (ap (λ k. k.standing) is)
   of_group (x ∷ xs) old new is = follow answers submit_on cut_on last (x ∷ xs) old new is
 
-  submits_all : (group : List AnySubmitted) (r : Reply) (old new : Keeping D) → SubmitsAll is_lawful state failures answers group r old new → Comes answers (SubmitAll group) r old new
+  submits_all : (group : List AnySubmitted) (r : Reply) (old new : Keeping D) → SubmitsAll view answers group r old new → Comes answers (SubmitAll group) r old new
   submits_all group (SubmittedAll n m) old new r = record {
     batches = group;
     epochs = ap (λ m. epochs_from m group) r.first_is;
@@ -260,7 +260,7 @@ module _ {D : Type 0} (is_lawful : D → Type 0) (state : D → DiskState) (fail
   submits_all group Closed old new r = absurd r
   submits_all group (Refused e b) old new r = absurd r
 
-  writes : (r : Reply) (old new : Keeping D) → IsKeeping old answers → Writes is_lawful state failures answers r old new → Comes answers WriteCut r old new
+  writes : (r : Reply) (old new : Keeping D) → IsKeeping old answers → Writes view answers r old new → Comes answers WriteCut r old new
   writes (Written w) old new kept r =
       ⊎_elim (λ none. none_comes answers submit_on cut_on last WriteCut (Written w) old new refl (inl refl) (ap (λ k. k.plan) none.2, ap (λ k. k.standing) none.2))
       (λ some. record { batches = []; epochs = refl; submitted = inl refl; goes = cut_off answers submit_on cut_on last old new kept some.1 }) r.cut
@@ -280,7 +280,7 @@ module _ {D : Type 0} (is_lawful : D → Type 0) (state : D → DiskState) (fail
   writes (Answered m ys) old new kept r = absurd r
   writes Closed old new kept r = absurd r
 
-  closes : (most : ℕ) (r : Reply) (old new : Keeping D) → ClosesFree is_lawful state failures answers most r old new → Comes answers (CloseFree most) r old new
+  closes : (most : ℕ) (r : Reply) (old new : Keeping D) → ClosesFree view answers most r old new → Comes answers (CloseFree most) r old new
   closes most Closed old new r = none_comes answers submit_on cut_on last (CloseFree most) Closed old new refl (inl refl) (ap (λ k. k.plan) r.same, ap (λ k. k.standing) r.same)
   closes most (Refused e back) old new r =
       none_comes answers submit_on cut_on last (CloseFree most) (Refused e back) old new refl (inl refl)
@@ -300,19 +300,19 @@ module _ {D : Type 0} (is_lawful : D → Type 0) (state : D → DiskState) (fail
   rested : (c : Command) (r : Reply) (old new : Keeping D) → (acknowledged_in c r ≡ []) × (submitted_in c r ≡ []) → Rests old new → Comes answers c r old new
   rested c r old new none is = none_comes answers submit_on cut_on last c r old new none.0 (inl none.1) (is.plan, is.standing)
 
-  one : (c : Command) (r : Reply) (old new : Keeping D) → IsKeeping old answers → Obeys is_lawful state failures answers c r old new → Comes answers c r old new
+  one : (c : Command) (r : Reply) (old new : Keeping D) → IsKeeping old answers → Obeys view answers c r old new → Comes answers c r old new
   one (Submit batch) r old new kept obeys = submits batch r old new obeys.0
   one (SubmitAs request batch) r old new kept obeys = submits_as request batch r old new obeys.0
   one (SubmitAll group) r old new kept obeys = submits_all group r old new obeys.0
   one WriteCut r old new kept obeys = writes r old new kept obeys.0
   one (CloseFree most) r old new kept obeys = closes most r old new obeys.0
-  one Release r old new kept obeys = rested Release r old new (refl, refl) (rests is_lawful state failures answers Release r old new refl obeys)
-  one Settle r old new kept obeys = rested Settle r old new (refl, refl) (rests is_lawful state failures answers Settle r old new refl obeys)
-  one Collect r old new kept obeys = rested Collect r old new (refl, refl) (rests is_lawful state failures answers Collect r old new refl obeys)
-  one NextOut r old new kept obeys = rested NextOut r old new (refl, refl) (rests is_lawful state failures answers NextOut r old new refl obeys)
-  one Cut r old new kept obeys = rested Cut r old new (refl, refl) (rests is_lawful state failures answers Cut r old new refl obeys)
-  one (Answer v w) r old new kept obeys = rested (Answer v w) r old new (refl, refl) (rests is_lawful state failures answers (Answer v w) r old new refl obeys)
-  one (CutUpTo e) r old new kept obeys = rested (CutUpTo e) r old new (refl, refl) (rests is_lawful state failures answers (CutUpTo e) r old new refl obeys)
+  one Release r old new kept obeys = rested Release r old new (refl, refl) (rests view answers Release r old new refl obeys)
+  one Settle r old new kept obeys = rested Settle r old new (refl, refl) (rests view answers Settle r old new refl obeys)
+  one Collect r old new kept obeys = rested Collect r old new (refl, refl) (rests view answers Collect r old new refl obeys)
+  one NextOut r old new kept obeys = rested NextOut r old new (refl, refl) (rests view answers NextOut r old new refl obeys)
+  one Cut r old new kept obeys = rested Cut r old new (refl, refl) (rests view answers Cut r old new refl obeys)
+  one (Answer v w) r old new kept obeys = rested (Answer v w) r old new (refl, refl) (rests view answers (Answer v w) r old new refl obeys)
+  one (CutUpTo e) r old new kept obeys = rested (CutUpTo e) r old new (refl, refl) (rests view answers (CutUpTo e) r old new refl obeys)
 
   -- a reply, and then others
   joined : (c : Command) (r : Reply) (cs : List Command) (rs : List Reply) (old mid new : Keeping D) → Comes answers c r old mid → (mid.broken ≡ true → submitted_by cs rs ≡ [])
@@ -351,7 +351,7 @@ module _ {D : Type 0} (is_lawful : D → Type 0) (state : D → DiskState) (fail
           subst (λ (p : List Line). (u : Standing) (y : List AnySubmitted) → Advance (states_by answers p) (with_more new.standing y) u → Advance (states_by answers p) (with_more mid.standing (rest.batches ++ y)) u)
           first.goes.plan rest.goes.on
 
-  gone : (commands : List Command) (replies : List Reply) (old new : Keeping D) → IsKeeping old answers → Driven is_lawful state failures answers commands replies old new → Gone answers commands replies old new
+  gone : (commands : List Command) (replies : List Reply) (old new : Keeping D) → IsKeeping old answers → Driven view answers commands replies old new → Gone answers commands replies old new
   gone [] [] old new kept e = record {
     batches = [];
     epochs = refl;
@@ -363,7 +363,7 @@ module _ {D : Type 0} (is_lawful : D → Type 0) (state : D → DiskState) (fail
   gone (c ∷ cs) [] old new kept none = absurd none
   gone (c ∷ cs) (r ∷ rs) old new kept driven =
       joined c r cs rs old driven.0 new (one c r old driven.0 kept driven.2)
-      (λ broke. (driven_broken is_lawful state failures answers cs rs driven.0 new driven.3 broke).1)
+      (λ broke. (driven_broken view answers cs rs driven.0 new driven.3 broke).1)
       (gone cs rs driven.0 new driven.1 driven.3)
 
 -- the law, as it is handed in
@@ -435,24 +435,24 @@ told_of answers each outs_join true plan head side s state history epochs outs t
           (All-weaker (Contains (outs_of answers plan history)) (Contains (outs_of answers plan (history ++ on.0))) (out_still answers outs_join plan history on.0) outs meant);
     }
 
-module _ {D : Type 0} (is_lawful : D → Type 0) (state : D → DiskState) (failures : D → ℕ) (answers : Answers)
+module _ {D : Type 0} (view : D → DiskView) (answers : Answers)
     (submit_on : Submit-on answers) (cut_on : Cut-on answers) (last : Last) (each : Each answers) (not_yet : NotYet answers) where
-  pub driven_acknowledges : (commands : List Command) (replies : List Reply) (old new : Keeping D) → IsKeeping old answers → Driven is_lawful state failures answers commands replies old new
+  pub driven_acknowledges : (commands : List Command) (replies : List Reply) (old new : Keeping D) → IsKeeping old answers → Driven view answers commands replies old new
       → Acknowledges answers commands replies old new
   driven_acknowledges commands replies old new kept driven =
-      of_gone answers each not_yet commands replies old new (gone is_lawful state failures answers submit_on cut_on last commands replies old new kept driven)
+      of_gone answers each not_yet commands replies old new (gone view answers submit_on cut_on last commands replies old new kept driven)
 
   -- WHAT WAS ACKNOWLEDGED AND HANDED OUT IS TOLD
   pub driven_told : (commands : List Command) (replies : List Reply) (old new : Keeping D) (history : List AnySubmitted) → OutsJoin answers → Together → IsKeeping old answers
-      → Driven is_lawful state failures answers commands replies old new → Stands (states_by answers old.plan) old.standing history → All (Contains (outs_of answers old.plan history)) old.queue
-      → HeldWhere new.broken answers new.plan new.head new.side new.standing (state new.device) → (c : List ℕ) → (state new.device).images c
+      → Driven view answers commands replies old new → Stands (states_by answers old.plan) old.standing history → All (Contains (outs_of answers old.plan history)) old.queue
+      → HeldWhere new.broken answers new.plan new.head new.side new.standing (view new.device).state → (c : List ℕ) → (view new.device).state.images c
       → TellsWork answers old.plan (acknowledged_by commands replies) (handed_out replies) c
   driven_told commands replies old new history outs_join together kept driven stands queue held c image =
       let acked = driven_acknowledges commands replies old new kept driven in
-      let hands = driven_hands is_lawful state failures answers outs_join last commands replies old new kept driven in
+      let hands = driven_hands view answers outs_join last commands replies old new kept driven in
       let meant = handed_meant answers outs_join commands replies old new history kept acked hands stands queue in
       subst (λ (p : List Line). TellsWork answers p (acknowledged_by commands replies) (handed_out replies) c) acked.plan
-      (told_of answers each outs_join new.broken new.plan new.head new.side new.standing (state new.device) (history ++ acked.batches) (acknowledged_by commands replies) (handed_out replies) together held
+      (told_of answers each outs_join new.broken new.plan new.head new.side new.standing (view new.device).state (history ++ acked.batches) (acknowledged_by commands replies) (handed_out replies) together held
       (subst (λ (p : List Line). Stands (states_by answers p) new.standing (history ++ acked.batches)) (sym acked.plan) (acked.stands history stands))
       (acked.there history stands)
       (subst (λ (p : List Line). All (Contains (outs_of answers p (history ++ acked.batches))) (handed_out replies)) (sym acked.plan) (first_of (Contains (outs_of answers old.plan (history ++ acked.batches))) (handed_out replies) new.queue meant))

@@ -2,8 +2,8 @@
 use Rattle.std.proofs.Common.{◌≡◌, ℕ, ◌≤◌, List, [], ◌∷◌, sym, ap, ◌∙◌, subst, arith, All}
 use Rattle.std.proofs.lemmas.List.Elements.{All-nil, All-cons}
 use Rattle.td_calls.specs.Answers.{Answers}
-use Rattle.td_disk.specs.Disk.{DiskState}
-use Rattle.td_standing.specs.Standing.{last_epoch}
+use Rattle.td_disk.specs.Disk.{DiskView, DiskState}
+use Rattle.td_store.specs.standing.Standing.{last_epoch}
 use Rattle.td_keeper.specs.declared.command.Command.{Command}
 use Rattle.td_keeper.specs.declared.command.Command.TheVariants.{Submit, SubmitAs, SubmitAll, Release, Settle, Collect, NextOut, Cut, CutUpTo, Answer, WriteCut, CloseFree}
 use Rattle.td_keeper.specs.declared.command.Reply.{Reply}
@@ -30,8 +30,8 @@ further a b Closed far up = up
 further a b (Refused e back) far up = up
 further a b (RefusedAll e back) far up = up
 
-module _ {D : Type 0} (is_lawful : D → Type 0) (state : D → DiskState) (failures : D → ℕ) (answers : Answers) where
-  one_up : (command : Command) (reply : Reply) (old new : Keeping D) → Obeys is_lawful state failures answers command reply old new
+module _ {D : Type 0} (view : D → DiskView) (answers : Answers) where
+  one_up : (command : Command) (reply : Reply) (old new : Keeping D) → Obeys view answers command reply old new
       → AcknowledgesUpTo (last_epoch new.standing) reply
   one_up command (SubmittedAs (Already n)) old new obeys = tt
   one_up command (Released n) old new obeys = tt
@@ -87,19 +87,19 @@ pub record Counts {D : Type 0} (old new : Keeping D) (replies : List Reply) : Ty
   pub far : last_epoch old.standing ≤ last_epoch new.standing
   pub counted : All (AcknowledgesUpTo (last_epoch new.standing)) replies
 
-module _ {D : Type 0} (is_lawful : D → Type 0) (state : D → DiskState) (failures : D → ℕ) (answers : Answers) (submit_on : Submit-on answers) (cut_on : Cut-on answers) (last : Last) where
-  pub driven_counts : (commands : List Command) (replies : List Reply) (old new : Keeping D) → IsKeeping old answers → Driven is_lawful state failures answers commands replies old new
-      → is_lawful old.device → Counts old new replies
+module _ {D : Type 0} (view : D → DiskView) (answers : Answers) (submit_on : Submit-on answers) (cut_on : Cut-on answers) (last : Last) where
+  pub driven_counts : (commands : List Command) (replies : List Reply) (old new : Keeping D) → IsKeeping old answers → Driven view answers commands replies old new
+      → (view old.device).lawful → Counts old new replies
   driven_counts [] [] old new kept e lawful =
       record { plan = ap (λ k. k.plan) e; far = subst (λ (k : Keeping D). last_epoch old.standing ≤ last_epoch k.standing) (sym e) (omega arith); counted = All-nil (AcknowledgesUpTo (last_epoch new.standing)) }
   driven_counts [] (r ∷ rs) old new kept none lawful = absurd none
   driven_counts (c ∷ cs) [] old new kept none lawful = absurd none
   driven_counts (c ∷ cs) (r ∷ rs) old new kept driven lawful =
-      let first = one is_lawful state failures answers submit_on cut_on last c r old driven.0 kept driven.2 lawful in
+      let first = one view answers submit_on cut_on last c r old driven.0 kept driven.2 lawful in
       let rest = driven_counts cs rs driven.0 new driven.1 driven.3 first.advances.lawful in
       let near = first.far in
       let further_on = rest.far in record {
         plan = rest.plan ∙ first.plan;
         far = omega (arith, near, further_on);
-        counted = All-cons (AcknowledgesUpTo (last_epoch new.standing)) r rs (further (last_epoch driven.0.standing) (last_epoch new.standing) r rest.far (one_up is_lawful state failures answers c r old driven.0 driven.2)) rest.counted;
+        counted = All-cons (AcknowledgesUpTo (last_epoch new.standing)) r rs (further (last_epoch driven.0.standing) (last_epoch new.standing) r rest.far (one_up view answers c r old driven.0 driven.2)) rest.counted;
       }

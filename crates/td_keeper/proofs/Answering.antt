@@ -10,11 +10,11 @@ use Rattle.td_batch.specs.Meaning.{run, states_after}
 use Rattle.td_machine.specs.State.{HallState}
 use Rattle.td_machine.specs.Sound.{Sound, run_states}
 use Rattle.td_questions.specs.Asked.{answer_to}
-use Rattle.td_disk.specs.Disk.{DiskState}
+use Rattle.td_disk.specs.Disk.{DiskView, DiskState}
 use Rattle.td_journal.specs.declared.submitted.Submitted.{Submitted as AnySubmitted}
-use Rattle.td_standing.specs.Standing.{last_epoch, batches_of}
-use Rattle.td_standing.specs.Stops.{Stands}
-use Rattle.td_standing.specs.Advanced.{states_by}
+use Rattle.td_store.specs.standing.Standing.{last_epoch, batches_of}
+use Rattle.td_store.specs.standing.Stops.{Stands}
+use Rattle.td_store.specs.standing.Advanced.{states_by}
 use Rattle.td_keeper.specs.declared.command.Command.{Command}
 use Rattle.td_keeper.specs.declared.command.Command.TheVariants.{Answer}
 use Rattle.td_keeper.specs.declared.command.Reply.{Reply}
@@ -68,10 +68,10 @@ module _ {D : Type 0} (answers : Answers) (join : StatesJoin answers) where
       let parts = length-append is.before k.standing.submitted in
       omega (arith, whole, parts, is.epochs)
 
-module _ {D : Type 0} (is_lawful : D → Type 0) (state : D → DiskState) (failures : D → ℕ) (answers : Answers) (join : StatesJoin answers)
-    (acknowledges : (commands : List Command) (replies : List Reply) (old new : Keeping D) → IsKeeping old answers → Driven is_lawful state failures answers commands replies old new
+module _ {D : Type 0} (view : D → DiskView) (answers : Answers) (join : StatesJoin answers)
+    (acknowledges : (commands : List Command) (replies : List Reply) (old new : Keeping D) → IsKeeping old answers → Driven view answers commands replies old new
     → Acknowledges answers commands replies old new) where
-  one : (c : Command) (r : Reply) (old new : Keeping D) (history : List AnySubmitted) → Stands (states_by answers old.plan) old.standing history → Obeys is_lawful state failures answers c r old new
+  one : (c : Command) (r : Reply) (old new : Keeping D) (history : List AnySubmitted) → Stands (states_by answers old.plan) old.standing history → Obeys view answers c r old new
       → IsOfHistory answers old.plan history c r
   one (Answer v w) (Answered e es) old new history is obeys =
       (obeys.last ∙ last_number answers join old history is, obeys.answer ∙ ap (answer_to v w) (last_is answers join old history is))
@@ -79,7 +79,7 @@ module _ {D : Type 0} (is_lawful : D → Type 0) (state : D → DiskState) (fail
 
   -- EACH ANSWER
   pub all_of_history : (commands : List Command) (replies : List Reply) (old new : Keeping D) (history : List AnySubmitted) → IsKeeping old answers
-      → Driven is_lawful state failures answers commands replies old new → Stands (states_by answers old.plan) old.standing history → AllOfHistory answers old.plan history commands replies
+      → Driven view answers commands replies old new → Stands (states_by answers old.plan) old.standing history → AllOfHistory answers old.plan history commands replies
   all_of_history [] replies old new history kept driven is = tt
   all_of_history (c ∷ cs) [] old new history kept driven is = tt
   all_of_history (c ∷ cs) (r ∷ rs) old new history kept driven is =

@@ -13,8 +13,8 @@ use Rattle.td_calls.specs.Answers.{Answers}
 use Rattle.td_machine.specs.State.{HallState}
 use Rattle.td_machine.specs.Steps.{Answer, accepts, release_step}
 use Rattle.td_machine.specs.Sound.{Sound}
-use Rattle.td_standing.specs.Standing.{batches_of}
-use Rattle.td_standing.specs.Told.{inputs_of}
+use Rattle.td_store.specs.standing.Standing.{batches_of}
+use Rattle.td_store.specs.standing.Told.{inputs_of}
 use Rattle.td_keeper.specs.Keeping.{Keeping, IsKeeping, since_base}
 use Rattle.td_keeper.specs.Halls.{IsOwn, lacking, with_released}
 use Rattle.td_keeper.proofs.Releasing.{HasReleased, has_released, released_more}

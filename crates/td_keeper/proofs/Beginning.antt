@@ -3,7 +3,7 @@ use Rattle.std.proofs.Common.{◌≡◌, ℕ, ◌+◌, ◌<◌, List, [], ◌∷
 use Rattle.std.proofs.lemmas.List.{append_assoc, drop_more, take_more, take_all, length-drop, length-append, get_or-drop, get_or_append_left, get_or-map}
 use Rattle.td_stamp.specs.declared.values.Entry.{Entry}
 use Rattle.td_journal.specs.declared.submitted.Submitted.{Submitted}
-use Rattle.td_standing.specs.Standing.{batches_of}
+use Rattle.td_store.specs.standing.Standing.{batches_of}
 use Rattle.td_keeper.specs.Halls.{Begin}
 
 -- so many of them, and then the others from a place on

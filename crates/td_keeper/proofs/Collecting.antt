@@ -19,7 +19,7 @@ use Rattle.td_machine.specs.State.{states_at}
 use Rattle.td_machine.specs.Steps.{Answer, collect_step, to_collect, outputs_at, cut_at_by, cut_to}
 use Rattle.td_machine.specs.Steps.Answer.{has_collected, has_cut}
 use Rattle.td_machine.specs.Sound.{Sound, run_states, outs_by}
-use Rattle.td_standing.specs.Standing.{batches_of, last_epoch}
+use Rattle.td_store.specs.standing.Standing.{batches_of, last_epoch}
 use Rattle.td_keeper.specs.Keeping.{Keeping, IsKeeping, words_at}
 use Rattle.td_keeper.specs.Halls.{IsOwn, IsDone, meant_outs, with_collected, collected_hall, last_passed, before_unpassed, cut_place}
 use Rattle.td_keeper.proofs.Kept.{now_published}

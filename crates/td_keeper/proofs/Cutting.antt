@@ -20,12 +20,12 @@ use Rattle.td_slots.specs.declared.slots.Checkpoint.{Checkpoint}
 use Rattle.td_journal.specs.Numbers.{greatest}
 use Rattle.td_journal.specs.declared.submitted.Submitted.{Submitted}
 use Rattle.td_watch.specs.View.{View}
-use Rattle.td_standing.specs.Standing.{Standing, standing_from, batches_of, with_more, cut_at}
-use Rattle.td_standing.specs.Stops.{Advance}
-use Rattle.td_standing.specs.Told.{folds_of}
-use Rattle.td_standing.specs.Tells.{IsCut, side_after}
-use Rattle.td_standing.specs.Advanced.{states_by}
-use Rattle.td_standing.specs.declared.error.KeeperError.TheVariants.{Broken, TooManyKeys}
+use Rattle.td_store.specs.standing.Standing.{Standing, standing_from, batches_of, with_more, cut_at}
+use Rattle.td_store.specs.standing.Stops.{Advance}
+use Rattle.td_store.specs.standing.Told.{folds_of}
+use Rattle.td_store.specs.standing.Tells.{IsCut, side_after}
+use Rattle.td_store.specs.standing.Advanced.{states_by}
+use Rattle.td_store.specs.declared.standing.error.KeeperError.TheVariants.{Broken, TooManyKeys}
 use Rattle.td_keeper.specs.Refused.{write_refusal}
 use Rattle.td_keeper.specs.declared.keeper.Taken.{Taken}
 use Rattle.td_keeper.specs.Keeping.{Keeping, keeping_of, IsKeeping, with_checkpoint, words_at, published}

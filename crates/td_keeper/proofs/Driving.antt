@@ -7,14 +7,14 @@ use Rattle.td_stamp.specs.States.{StateList}
 use Rattle.td_plan.specs.Tree.{Nodes, tree_of}
 use Rattle.td_calls.specs.Answers.{Answers}
 use Rattle.td_batch.specs.Meaning.{run}
-use Rattle.td_disk.specs.Disk.{DiskState}
+use Rattle.td_disk.specs.Disk.{DiskView, DiskState}
 use Rattle.td_journal.specs.declared.submitted.Submitted.{Submitted as AnySubmitted}
 use Rattle.td_questions.specs.declared.question.Wanted.{Wanted}
-use Rattle.td_standing.specs.Standing.{Standing, last_epoch, submission, batches_of, with_more, cut_at}
-use Rattle.td_standing.specs.Stops.{Advance}
-use Rattle.td_standing.specs.Advanced.{TellsAdvance, AdvancesSince, states_by}
-use Rattle.td_standing.specs.declared.error.KeeperError.{KeeperError}
-use Rattle.td_standing.specs.declared.error.KeeperError.TheVariants as error
+use Rattle.td_store.specs.standing.Standing.{Standing, last_epoch, submission, batches_of, with_more, cut_at}
+use Rattle.td_store.specs.standing.Stops.{Advance}
+use Rattle.td_store.specs.standing.Advanced.{TellsAdvance, AdvancesSince, states_by}
+use Rattle.td_store.specs.declared.standing.error.KeeperError.{KeeperError}
+use Rattle.td_store.specs.declared.standing.error.KeeperError.TheVariants as error
 use Rattle.td_keeper.specs.declared.group.GroupError.{GroupError}
 use Rattle.td_keeper.specs.declared.group.GroupError.TheVariants.{Repeated, Keeper}
 use Rattle.td_keeper.specs.declared.command.Command.{Command}
@@ -72,11 +72,11 @@ refused_in P x e with_it other = by (is_device e) refl
     by false is = ⊎_elim (λ device. absurd (let no : true ≡ false = sym (device_is e device) ∙ is in cc)) (λ p. p) other
 
 -- of a request that was answered: what holds with its batch, or without it where nothing changed
-pub received_since : {D : Type 0} (state : D → DiskState) (answers : Answers) (request : ℕ) (batch : List Entry) (receipt : Receipt) (old new : Keeping D) → IsReceived request batch receipt old new
-    → AdvancesSince answers old.plan old.standing (submission request batch ∷ []) (last_epoch old.standing) (state old.device) (state new.device)
-    → AdvancesSince answers old.plan old.standing (received_in request batch receipt) (last_epoch old.standing) (state old.device) (state new.device)
-received_since state answers request batch (New epoch) old new r further t c le left = further t c le left
-received_since {D = D} state answers request batch (Already last) old new r further t c le left = inl (subst (λ (k : Keeping D). (state k.device).since t c) r.2 left)
+pub received_since : {D : Type 0} (view : D → DiskView) (answers : Answers) (request : ℕ) (batch : List Entry) (receipt : Receipt) (old new : Keeping D) → IsReceived request batch receipt old new
+    → AdvancesSince answers old.plan old.standing (submission request batch ∷ []) (last_epoch old.standing) (view old.device).state (view new.device).state
+    → AdvancesSince answers old.plan old.standing (received_in request batch receipt) (last_epoch old.standing) (view old.device).state (view new.device).state
+received_since view answers request batch (New epoch) old new r further t c le left = further t c le left
+received_since {D = D} view answers request batch (Already last) old new r further t c le left = inl (subst (λ (k : Keeping D). (view k.device).state.since t c) r.2 left)
 
 -- a keeper that is broken refuses as that
 submit_broken : {D : Type 0} (k : Keeping D) (batch : List Entry) → k.broken ≡ true → submit_refusal k batch ≡ Some error.Broken
@@ -125,12 +125,12 @@ Later answers = (nodes : Nodes) (s u : Standing) (y : List AnySubmitted)
 abbrev pub Last : Type 0
 Last = (s : Standing) (k : ℕ) (states : StateList) → k ≤ length s.submitted → last_epoch (cut_at s k states) ≡ last_epoch s
 
-module _ {D : Type 0} (is_lawful : D → Type 0) (state : D → DiskState) (failures : D → ℕ) (answers : Answers) where
+module _ {D : Type 0} (view : D → DiskView) (answers : Answers) where
   -- with one command more
   pub driven_more : (commands : List Command) (replies : List Reply) (command : Command) (reply : Reply) (old mid new : Keeping D)
-      → Driven is_lawful state failures answers commands replies old mid → Obeys is_lawful state failures answers command reply mid new → IsKeeping new answers
-      → Driven is_lawful state failures answers (commands ++ command ∷ []) (replies ++ reply ∷ []) old new
-  driven_more [] [] command reply old mid new e obeys kept = (new, kept, subst (λ k. Obeys is_lawful state failures answers command reply k new) e obeys, refl)
+      → Driven view answers commands replies old mid → Obeys view answers command reply mid new → IsKeeping new answers
+      → Driven view answers (commands ++ command ∷ []) (replies ++ reply ∷ []) old new
+  driven_more [] [] command reply old mid new e obeys kept = (new, kept, subst (λ k. Obeys view answers command reply k new) e obeys, refl)
   driven_more [] (r ∷ rs) command reply old mid new none obeys kept = absurd none
   driven_more (c ∷ cs) [] command reply old mid new none obeys kept = absurd none
   driven_more (c ∷ cs) (r ∷ rs) command reply old mid new driven obeys kept =
@@ -143,8 +143,8 @@ module _ {D : Type 0} where
   by : (old other new : Keeping D) → new ≡ other → Rests old other → Rests old new
   by old other new is rests = subst (λ (k : Keeping D). Rests old k) (sym is) rests
 
-module _ {D : Type 0} (is_lawful : D → Type 0) (state : D → DiskState) (failures : D → ℕ) (answers : Answers) where
-  releases : (reply : Reply) (old new : Keeping D) → Releases is_lawful state failures answers reply old new → Rests old new
+module _ {D : Type 0} (view : D → DiskView) (answers : Answers) where
+  releases : (reply : Reply) (old new : Keeping D) → Releases view answers reply old new → Rests old new
   releases (Released n) old new r = by old old new r.same (same old)
   releases (Refused e b) old new r = ⊎_elim (λ foreign. by old old new foreign.1.same (same old)) (λ memory. by old old new memory.1.same (same old)) r.1
   releases (Submitted n) old new r = absurd r
@@ -159,7 +159,7 @@ module _ {D : Type 0} (is_lawful : D → Type 0) (state : D → DiskState) (fail
   releases (Answered m ys) old new r = absurd r
   releases Closed old new r = absurd r
 
-  settles : (reply : Reply) (old new : Keeping D) → Settles is_lawful state failures answers reply old new → Rests old new
+  settles : (reply : Reply) (old new : Keeping D) → Settles view answers reply old new → Rests old new
   settles Settled old new r = by old old new r.same (same old)
   settles (Refused e b) old new r = by old old new r.1.2.same (same old)
   settles (Submitted n) old new r = absurd r
@@ -174,7 +174,7 @@ module _ {D : Type 0} (is_lawful : D → Type 0) (state : D → DiskState) (fail
   settles (Answered m ys) old new r = absurd r
   settles Closed old new r = absurd r
 
-  collects : (reply : Reply) (old new : Keeping D) → Collects is_lawful state failures answers reply old new → Rests old new
+  collects : (reply : Reply) (old new : Keeping D) → Collects view answers reply old new → Rests old new
   collects (Collected n) old new r = by old (with_collected old r.hall) new r.collected (record { device = refl; plan = refl; standing = refl; broken = refl })
   collects (Refused e b) old new r = ⊎_elim (λ foreign. by old old new foreign.1.same (same old)) (λ memory. by old old new memory.1.same (same old)) r.1
   collects (Submitted n) old new r = absurd r
@@ -189,7 +189,7 @@ module _ {D : Type 0} (is_lawful : D → Type 0) (state : D → DiskState) (fail
   collects (Answered m ys) old new r = absurd r
   collects Closed old new r = absurd r
 
-  hands_out : (reply : Reply) (old new : Keeping D) → HandsOut is_lawful state failures answers reply old new → Rests old new
+  hands_out : (reply : Reply) (old new : Keeping D) → HandsOut view answers reply old new → Rests old new
   hands_out (Out None) old new r = by old old new r.1 (same old)
   hands_out (Out (Some out)) old new r = by old (record old { queue = new.queue }) new r.1 (record { device = refl; plan = refl; standing = refl; broken = refl })
   hands_out (Refused e b) old new r = absurd r
@@ -205,7 +205,7 @@ module _ {D : Type 0} (is_lawful : D → Type 0) (state : D → DiskState) (fail
   hands_out (Answered m ys) old new r = absurd r
   hands_out Closed old new r = absurd r
 
-  cuts : (most : Option ℕ) (reply : Reply) (old new : Keeping D) → Cuts is_lawful state failures answers most reply old new → Rests old new
+  cuts : (most : Option ℕ) (reply : Reply) (old new : Keeping D) → Cuts view answers most reply old new → Rests old new
   cuts most (CutTaken n) old new r = by old (with_cut (with_collected old r.hall) (cut_hall_up_to most (collected_hall r.hall))) new r.cut (record { device = refl; plan = refl; standing = refl; broken = refl })
   cuts most (Refused e b) old new r =
       ⊎_elim
@@ -227,7 +227,7 @@ module _ {D : Type 0} (is_lawful : D → Type 0) (state : D → DiskState) (fail
   cuts most (Answered m ys) old new r = absurd r
   cuts most Closed old new r = absurd r
 
-  asks : (vertex : ℕ) (wanted : Wanted) (reply : Reply) (old new : Keeping D) → Asks is_lawful state failures answers vertex wanted reply old new → Rests old new
+  asks : (vertex : ℕ) (wanted : Wanted) (reply : Reply) (old new : Keeping D) → Asks view answers vertex wanted reply old new → Rests old new
   asks vertex wanted (Answered m ys) old new r = by old old new r.same (same old)
   asks vertex wanted (Refused e b) old new r =
       ⊎_elim
@@ -250,7 +250,7 @@ module _ {D : Type 0} (is_lawful : D → Type 0) (state : D → DiskState) (fail
   asks vertex wanted Closed old new r = absurd r
 
   -- WHAT A COMMAND THAT DOES NOT WRITE leaves
-  pub rests : (command : Command) (reply : Reply) (old new : Keeping D) → may_write command ≡ false → Obeys is_lawful state failures answers command reply old new → Rests old new
+  pub rests : (command : Command) (reply : Reply) (old new : Keeping D) → may_write command ≡ false → Obeys view answers command reply old new → Rests old new
   rests (Submit batch) reply old new quiet obeys = absurd (cc)
   rests (SubmitAs request batch) reply old new quiet obeys = absurd (cc)
   rests (SubmitAll group) reply old new quiet obeys = absurd (cc)
@@ -265,28 +265,28 @@ module _ {D : Type 0} (is_lawful : D → Type 0) (state : D → DiskState) (fail
   rests (CloseFree most) reply old new quiet obeys = absurd (cc)
 
 -- WHAT ONE COMMAND DOES to a whole keeper of a lawful disk, with what it submitted
-pub record Goes {D : Type 0} (is_lawful : D → Type 0) (state : D → DiskState) (failures : D → ℕ) (answers : Answers) (old new : Keeping D) (x : List AnySubmitted) : Type 0 where
+pub record Goes {D : Type 0} (view : D → DiskView) (answers : Answers) (old new : Keeping D) (x : List AnySubmitted) : Type 0 where
   pub plan : new.plan ≡ old.plan
-  pub advances : Advances is_lawful state failures answers old new x
+  pub advances : Advances view answers old new x
   pub far : last_epoch old.standing ≤ last_epoch new.standing
   pub on : new.broken ≡ false → (u : Standing) (y : List AnySubmitted) → Advance (states_by answers old.plan) (with_more new.standing y) u → Advance (states_by answers old.plan) (with_more old.standing (x ++ y)) u
 
-module _ {D : Type 0} (is_lawful : D → Type 0) (state : D → DiskState) (failures : D → ℕ) (answers : Answers) (submit_on : Submit-on answers) (cut_on : Cut-on answers) (last : Last) where
+module _ {D : Type 0} (view : D → DiskView) (answers : Answers) (submit_on : Submit-on answers) (cut_on : Cut-on answers) (last : Last) where
   -- where it writes nothing
-  goes_rests : (old new : Keeping D) → Rests old new → is_lawful old.device → Goes is_lawful state failures answers old new []
+  goes_rests : (old new : Keeping D) → Rests old new → (view old.device).lawful → Goes view answers old new []
   goes_rests old new rests lawful = record {
     plan = rests.plan;
     advances = record {
-      lawful = subst is_lawful (sym rests.device) lawful;
-      later = subst (λ (d : D). (state old.device).moment ≤ (state d).moment) (sym rests.device) (omega arith);
-      since = λ whole t c le left. inl (subst (λ (d : D). (state d).since t c) rests.device left);
+      lawful = subst (λ (d : D). (view d).lawful) (sym rests.device) lawful;
+      later = subst (λ (d : D). (view old.device).state.moment ≤ (view d).state.moment) (sym rests.device) (omega arith);
+      since = λ whole t c le left. inl (subst (λ (d : D). (view d).state.since t c) rests.device left);
     };
     far = subst (λ (s : Standing). last_epoch old.standing ≤ last_epoch s) (sym rests.standing) (omega arith);
     on = λ whole u y step. subst (λ (s : Standing). Advance (states_by answers old.plan) (with_more s y) u) rests.standing step;
   }
 
   -- where its plan and standing stay, with nothing submitted, or with the device broken
-  goes_same : (old new : Keeping D) (x : List AnySubmitted) → new.plan ≡ old.plan → new.standing ≡ old.standing → (new.broken ≡ false → x ≡ []) → Advances is_lawful state failures answers old new x → Goes is_lawful state failures answers old new x
+  goes_same : (old new : Keeping D) (x : List AnySubmitted) → new.plan ≡ old.plan → new.standing ≡ old.standing → (new.broken ≡ false → x ≡ []) → Advances view answers old new x → Goes view answers old new x
   goes_same old new x plan standing none advances = record {
     plan = plan;
     advances = advances;
@@ -306,7 +306,7 @@ module _ {D : Type 0} (is_lawful : D → Type 0) (state : D → DiskState) (fail
 
   -- where some epochs come next
   goes_epochs : (x : List AnySubmitted) (old new : Keeping D) → new ≡ with_epochs old new.device x
-      → Advances is_lawful state failures answers old new x → Goes is_lawful state failures answers old new x
+      → Advances view answers old new x → Goes view answers old new x
   goes_epochs x old new is advances =
       let standing : new.standing ≡ with_more old.standing x = ap (λ k. k.standing) is in
       let count = length-append old.standing.submitted x in record {
@@ -319,18 +319,18 @@ module _ {D : Type 0} (is_lawful : D → Type 0) (state : D → DiskState) (fail
       }
 
   goes_submitted : (request : ℕ) (batch : List Entry) (old new : Keeping D) → new ≡ with_batch old new.device request batch
-      → Advances is_lawful state failures answers old new (submission request batch ∷ []) → Goes is_lawful state failures answers old new (submission request batch ∷ [])
+      → Advances view answers old new (submission request batch ∷ []) → Goes view answers old new (submission request batch ∷ [])
   goes_submitted request batch old new is advances = goes_epochs (submission request batch ∷ []) old new is advances
 
   goes_group : (group : List AnySubmitted) (old new : Keeping D) → new ≡ with_group old new.device group
-      → Advances is_lawful state failures answers old new group → Goes is_lawful state failures answers old new group
+      → Advances view answers old new group → Goes view answers old new group
   goes_group [] old new is advances = goes_same old new [] (ap (λ k. k.plan) is) (ap (λ k. k.standing) is) (λ whole. refl) advances
   goes_group (x ∷ xs) old new is advances = goes_epochs (x ∷ xs) old new is advances
 
   -- where it is not
   goes_refused : (refusal : Option KeeperError) (x : List AnySubmitted) (batch : List Entry) (e : KeeperError) (back : Option (List Entry)) (old new : Keeping D)
-      → IsNotSubmitted is_lawful state failures answers refusal batch e back old new
-      → Advances is_lawful state failures answers old new (if is_device e then x else []) → Goes is_lawful state failures answers old new (if is_device e then x else [])
+      → IsNotSubmitted view answers refusal batch e back old new
+      → Advances view answers old new (if is_device e then x else []) → Goes view answers old new (if is_device e then x else [])
   goes_refused refusal x batch e back old new r advances =
       let stays = kept_plan old new (e ≡ error.Memory) (e ≡ error.Device) r.unchanged in
       goes_same old new (if is_device e then x else []) stays.0 stays.1 (λ whole. none (is_device e) refl whole) advances
@@ -339,8 +339,8 @@ module _ {D : Type 0} (is_lawful : D → Type 0) (state : D → DiskState) (fail
       none true is whole = absurd (let no : true ≡ false = sym (r.device (is_device_is e is)).broken ∙ whole in cc)
       none false is whole = refl
 
-  submits : (batch : List Entry) (reply : Reply) (old new : Keeping D) → Submits is_lawful state failures answers batch reply old new
-      → Advances is_lawful state failures answers old new (submitted_in (Submit batch) reply) → Goes is_lawful state failures answers old new (submitted_in (Submit batch) reply)
+  submits : (batch : List Entry) (reply : Reply) (old new : Keeping D) → Submits view answers batch reply old new
+      → Advances view answers old new (submitted_in (Submit batch) reply) → Goes view answers old new (submitted_in (Submit batch) reply)
   submits batch (Submitted n) old new r advances = goes_submitted 0 batch old new r.submitted advances
   submits batch (Refused e back) old new r advances = goes_refused (submit_refusal old batch) (submission 0 batch ∷ []) batch e back old new r advances
   submits batch (SubmittedAs n) old new r advances = absurd r
@@ -356,12 +356,12 @@ module _ {D : Type 0} (is_lawful : D → Type 0) (state : D → DiskState) (fail
   submits batch Closed old new r advances = absurd r
 
   answers_as : (request : ℕ) (batch : List Entry) (receipt : Receipt) (old new : Keeping D) → IsReceived request batch receipt old new
-      → Advances is_lawful state failures answers old new (received_in request batch receipt) → Goes is_lawful state failures answers old new (received_in request batch receipt)
+      → Advances view answers old new (received_in request batch receipt) → Goes view answers old new (received_in request batch receipt)
   answers_as request batch (New epoch) old new r advances = goes_submitted request batch old new r.2 advances
   answers_as request batch (Already last) old new r advances = goes_same old new [] (ap (λ k. k.plan) r.2) (ap (λ k. k.standing) r.2) (λ whole. refl) advances
 
-  submits_as : (request : ℕ) (batch : List Entry) (reply : Reply) (old new : Keeping D) → SubmitsAs is_lawful state failures answers request batch reply old new
-      → Advances is_lawful state failures answers old new (submitted_in (SubmitAs request batch) reply) → Goes is_lawful state failures answers old new (submitted_in (SubmitAs request batch) reply)
+  submits_as : (request : ℕ) (batch : List Entry) (reply : Reply) (old new : Keeping D) → SubmitsAs view answers request batch reply old new
+      → Advances view answers old new (submitted_in (SubmitAs request batch) reply) → Goes view answers old new (submitted_in (SubmitAs request batch) reply)
   submits_as request batch (SubmittedAs receipt) old new r advances = answers_as request batch receipt old new r.received advances
   submits_as request batch (Refused e back) old new r advances = goes_refused (submit_as_refusal old request batch) (submission request batch ∷ []) batch e back old new r.refused advances
   submits_as request batch (Submitted n) old new r advances = absurd r
@@ -377,8 +377,8 @@ module _ {D : Type 0} (is_lawful : D → Type 0) (state : D → DiskState) (fail
   submits_as request batch Closed old new r advances = absurd r
 
   goes_none : (group : List AnySubmitted) (e : GroupError) (back : List AnySubmitted) (old new : Keeping D)
-      → IsNoneSubmitted is_lawful state failures answers group e back old new
-      → Advances is_lawful state failures answers old new (if is_of_device e then group else []) → Goes is_lawful state failures answers old new (if is_of_device e then group else [])
+      → IsNoneSubmitted view answers group e back old new
+      → Advances view answers old new (if is_of_device e then group else []) → Goes view answers old new (if is_of_device e then group else [])
   goes_none group e back old new r advances =
       let stays = kept_plan old new (e ≡ Keeper error.Memory) (e ≡ Keeper error.Device) r.unchanged in
       goes_same old new (if is_of_device e then group else []) stays.0 stays.1 (λ whole. none (is_of_device e) refl whole) advances
@@ -387,8 +387,8 @@ module _ {D : Type 0} (is_lawful : D → Type 0) (state : D → DiskState) (fail
       none true is whole = absurd (let no : true ≡ false = sym (r.device (is_of_device_is e is)).broken ∙ whole in cc)
       none false is whole = refl
 
-  submits_all : (group : List AnySubmitted) (reply : Reply) (old new : Keeping D) → SubmitsAll is_lawful state failures answers group reply old new
-      → Advances is_lawful state failures answers old new (submitted_in (SubmitAll group) reply) → Goes is_lawful state failures answers old new (submitted_in (SubmitAll group) reply)
+  submits_all : (group : List AnySubmitted) (reply : Reply) (old new : Keeping D) → SubmitsAll view answers group reply old new
+      → Advances view answers old new (submitted_in (SubmitAll group) reply) → Goes view answers old new (submitted_in (SubmitAll group) reply)
   submits_all group (SubmittedAll n m) old new r advances = goes_group group old new r.submitted advances
   submits_all group (RefusedAll e back) old new r advances = goes_none group e back old new r advances
   submits_all group (Submitted n) old new r advances = absurd r
@@ -403,12 +403,12 @@ module _ {D : Type 0} (is_lawful : D → Type 0) (state : D → DiskState) (fail
   submits_all group Closed old new r advances = absurd r
   submits_all group (Refused e b) old new r advances = absurd r
 
-  writes : (reply : Reply) (old new : Keeping D) → IsKeeping old answers → Writes is_lawful state failures answers reply old new
-      → Advances is_lawful state failures answers old new [] → Goes is_lawful state failures answers old new []
+  writes : (reply : Reply) (old new : Keeping D) → IsKeeping old answers → Writes view answers reply old new
+      → Advances view answers old new [] → Goes view answers old new []
   writes (Written w) old new kept r advances =
       ⊎_elim (λ none. goes_same old new [] (ap (λ k. k.plan) none.2) (ap (λ k. k.standing) none.2) (λ whole. refl) advances) (λ some. by_cut some.1) r.cut
     where
-      by_cut : new ≡ with_checkpoint old new.device → Goes is_lawful state failures answers old new []
+      by_cut : new ≡ with_checkpoint old new.device → Goes view answers old new []
       by_cut is =
           let s = old.standing in
           let n = old.base - s.epoch in
@@ -440,8 +440,8 @@ module _ {D : Type 0} (is_lawful : D → Type 0) (state : D → DiskState) (fail
   writes (Answered m ys) old new kept r advances = absurd r
   writes Closed old new kept r advances = absurd r
 
-  closes : (most : ℕ) (reply : Reply) (old new : Keeping D) → ClosesFree is_lawful state failures answers most reply old new
-      → Advances is_lawful state failures answers old new [] → Goes is_lawful state failures answers old new []
+  closes : (most : ℕ) (reply : Reply) (old new : Keeping D) → ClosesFree view answers most reply old new
+      → Advances view answers old new [] → Goes view answers old new []
   closes most Closed old new r advances = goes_same old new [] (ap (λ k. k.plan) r.same) (ap (λ k. k.standing) r.same) (λ whole. refl) advances
   closes most (Refused e back) old new r advances =
       ⊎_elim (λ is. goes_same old new [] (ap (λ k. k.plan) is) (ap (λ k. k.standing) is) (λ whole. refl) advances)
@@ -458,22 +458,22 @@ module _ {D : Type 0} (is_lawful : D → Type 0) (state : D → DiskState) (fail
   closes most (Answered m ys) old new r advances = absurd r
   closes most (Written w) old new r advances = absurd r
 
-  pub one : (command : Command) (reply : Reply) (old new : Keeping D) → IsKeeping old answers → Obeys is_lawful state failures answers command reply old new
-      → is_lawful old.device → Goes is_lawful state failures answers old new (submitted_in command reply)
+  pub one : (command : Command) (reply : Reply) (old new : Keeping D) → IsKeeping old answers → Obeys view answers command reply old new
+      → (view old.device).lawful → Goes view answers old new (submitted_in command reply)
   one (Submit batch) reply old new kept obeys lawful = submits batch reply old new obeys.0 (obeys.1.advances lawful)
   one (SubmitAs request batch) reply old new kept obeys lawful = submits_as request batch reply old new obeys.0 (obeys.1.advances lawful)
   one (SubmitAll group) reply old new kept obeys lawful = submits_all group reply old new obeys.0 (obeys.1.advances lawful)
-  one Release reply old new kept obeys lawful = goes_rests old new (rests is_lawful state failures answers Release reply old new refl obeys) lawful
-  one Settle reply old new kept obeys lawful = goes_rests old new (rests is_lawful state failures answers Settle reply old new refl obeys) lawful
-  one Collect reply old new kept obeys lawful = goes_rests old new (rests is_lawful state failures answers Collect reply old new refl obeys) lawful
-  one NextOut reply old new kept obeys lawful = goes_rests old new (rests is_lawful state failures answers NextOut reply old new refl obeys) lawful
-  one Cut reply old new kept obeys lawful = goes_rests old new (rests is_lawful state failures answers Cut reply old new refl obeys) lawful
-  one (Answer v w) reply old new kept obeys lawful = goes_rests old new (rests is_lawful state failures answers (Answer v w) reply old new refl obeys) lawful
-  one (CutUpTo e) reply old new kept obeys lawful = goes_rests old new (rests is_lawful state failures answers (CutUpTo e) reply old new refl obeys) lawful
+  one Release reply old new kept obeys lawful = goes_rests old new (rests view answers Release reply old new refl obeys) lawful
+  one Settle reply old new kept obeys lawful = goes_rests old new (rests view answers Settle reply old new refl obeys) lawful
+  one Collect reply old new kept obeys lawful = goes_rests old new (rests view answers Collect reply old new refl obeys) lawful
+  one NextOut reply old new kept obeys lawful = goes_rests old new (rests view answers NextOut reply old new refl obeys) lawful
+  one Cut reply old new kept obeys lawful = goes_rests old new (rests view answers Cut reply old new refl obeys) lawful
+  one (Answer v w) reply old new kept obeys lawful = goes_rests old new (rests view answers (Answer v w) reply old new refl obeys) lawful
+  one (CutUpTo e) reply old new kept obeys lawful = goes_rests old new (rests view answers (CutUpTo e) reply old new refl obeys) lawful
   one WriteCut reply old new kept obeys lawful = writes reply old new kept obeys.0 (obeys.1.advances lawful)
   one (CloseFree most) reply old new kept obeys lawful = closes most reply old new obeys.0 (obeys.1.advances lawful)
 
-module _ {D : Type 0} (is_lawful : D → Type 0) (state : D → DiskState) (failures : D → ℕ) (answers : Answers) where
+module _ {D : Type 0} (view : D → DiskView) (answers : Answers) where
   -- a broken keeper writes nothing, and stays broken
   record StaysBroken (old new : Keeping D) : Type 0 where
     device : new.device ≡ old.device
@@ -483,7 +483,7 @@ module _ {D : Type 0} (is_lawful : D → Type 0) (state : D → DiskState) (fail
   rests_broken old new rests is = record { device = rests.device; broken = rests.broken ∙ is }
 
   broken_refused : (refusal : Option KeeperError) (x : List AnySubmitted) (batch : List Entry) (e : KeeperError) (back : Option (List Entry)) (old new : Keeping D)
-      → refusal ≡ Some error.Broken → IsNotSubmitted is_lawful state failures answers refusal batch e back old new → old.broken ≡ true
+      → refusal ≡ Some error.Broken → IsNotSubmitted view answers refusal batch e back old new → old.broken ≡ true
       → StaysBroken old new × ((if is_device e then x else []) ≡ [])
   broken_refused refusal x batch e back old new broken r is =
       let named : e ≡ error.Broken = is_broken refusal error.Broken e ((e ≡ error.Memory) ⊎ (e ≡ error.Device)) broken r.cause in
@@ -493,7 +493,7 @@ module _ {D : Type 0} (is_lawful : D → Type 0) (state : D → DiskState) (fail
         none,
       )
 
-  broken_submits : (batch : List Entry) (reply : Reply) (old new : Keeping D) → Submits is_lawful state failures answers batch reply old new → old.broken ≡ true
+  broken_submits : (batch : List Entry) (reply : Reply) (old new : Keeping D) → Submits view answers batch reply old new → old.broken ≡ true
       → StaysBroken old new × (submitted_in (Submit batch) reply ≡ [])
   broken_submits batch (Submitted n) old new r is = absurd (none_is_broken (submit_refusal old batch) error.Broken (submit_broken old batch is) r.accepted)
   broken_submits batch (Refused e back) old new r is = broken_refused (submit_refusal old batch) (submission 0 batch ∷ []) batch e back old new (submit_broken old batch is) r is
@@ -509,7 +509,7 @@ module _ {D : Type 0} (is_lawful : D → Type 0) (state : D → DiskState) (fail
   broken_submits batch (Answered m ys) old new r is = absurd r
   broken_submits batch Closed old new r is = absurd r
 
-  broken_submits_as : (request : ℕ) (batch : List Entry) (reply : Reply) (old new : Keeping D) → SubmitsAs is_lawful state failures answers request batch reply old new → old.broken ≡ true
+  broken_submits_as : (request : ℕ) (batch : List Entry) (reply : Reply) (old new : Keeping D) → SubmitsAs view answers request batch reply old new → old.broken ≡ true
       → StaysBroken old new × (submitted_in (SubmitAs request batch) reply ≡ [])
   broken_submits_as request batch (SubmittedAs n) old new r is = absurd (none_is_broken (submit_as_refusal old request batch) error.Broken (submit_as_broken old request batch is) r.accepted)
   broken_submits_as request batch (Refused e back) old new r is =
@@ -526,7 +526,7 @@ module _ {D : Type 0} (is_lawful : D → Type 0) (state : D → DiskState) (fail
   broken_submits_as request batch (Answered m ys) old new r is = absurd r
   broken_submits_as request batch Closed old new r is = absurd r
 
-  broken_submits_all : (group : List AnySubmitted) (reply : Reply) (old new : Keeping D) → SubmitsAll is_lawful state failures answers group reply old new → old.broken ≡ true
+  broken_submits_all : (group : List AnySubmitted) (reply : Reply) (old new : Keeping D) → SubmitsAll view answers group reply old new → old.broken ≡ true
       → StaysBroken old new × (submitted_in (SubmitAll group) reply ≡ [])
   broken_submits_all group (SubmittedAll n m) old new r is = absurd (none_is_broken (group_refusal old group) (Keeper error.Broken) (group_broken old group is) r.accepted)
   broken_submits_all group (RefusedAll e back) old new r is =
@@ -548,7 +548,7 @@ module _ {D : Type 0} (is_lawful : D → Type 0) (state : D → DiskState) (fail
   broken_submits_all group Closed old new r is = absurd r
   broken_submits_all group (Refused e b) old new r is = absurd r
 
-  broken_writes : (reply : Reply) (old new : Keeping D) → Writes is_lawful state failures answers reply old new → old.broken ≡ true → StaysBroken old new
+  broken_writes : (reply : Reply) (old new : Keeping D) → Writes view answers reply old new → old.broken ≡ true → StaysBroken old new
   broken_writes (Written w) old new r is = absurd (none_is_broken (write_refusal old) error.Broken (write_broken old is) r.accepted)
   broken_writes (Refused e back) old new r is =
       let named : e ≡ error.Broken = is_broken (write_refusal old) error.Broken e ((e ≡ error.Memory) ⊎ (e ≡ error.Device)) (write_broken old is) r.cause in
@@ -566,7 +566,7 @@ module _ {D : Type 0} (is_lawful : D → Type 0) (state : D → DiskState) (fail
   broken_writes (Answered m ys) old new r is = absurd r
   broken_writes Closed old new r is = absurd r
 
-  broken_closes : (most : ℕ) (reply : Reply) (old new : Keeping D) → ClosesFree is_lawful state failures answers most reply old new → old.broken ≡ true → StaysBroken old new
+  broken_closes : (most : ℕ) (reply : Reply) (old new : Keeping D) → ClosesFree view answers most reply old new → old.broken ≡ true → StaysBroken old new
   broken_closes most Closed old new r is = absurd (none_is_broken (close_refusal old) error.Broken (close_broken old is) r.accepted)
   broken_closes most (Refused e back) old new r is =
       let named : e ≡ error.Broken = is_broken (close_refusal old) error.Broken e (e ≡ error.Device) (close_broken old is) r.cause in
@@ -583,23 +583,23 @@ module _ {D : Type 0} (is_lawful : D → Type 0) (state : D → DiskState) (fail
   broken_closes most (Answered m ys) old new r is = absurd r
   broken_closes most (Written w) old new r is = absurd r
 
-  broken_one : (command : Command) (reply : Reply) (old new : Keeping D) → Obeys is_lawful state failures answers command reply old new → old.broken ≡ true
+  broken_one : (command : Command) (reply : Reply) (old new : Keeping D) → Obeys view answers command reply old new → old.broken ≡ true
       → StaysBroken old new × (submitted_in command reply ≡ [])
   broken_one (Submit batch) reply old new obeys is = broken_submits batch reply old new obeys.0 is
   broken_one (SubmitAs request batch) reply old new obeys is = broken_submits_as request batch reply old new obeys.0 is
   broken_one (SubmitAll group) reply old new obeys is = broken_submits_all group reply old new obeys.0 is
-  broken_one Release reply old new obeys is = (rests_broken old new (rests is_lawful state failures answers Release reply old new refl obeys) is, refl)
-  broken_one Settle reply old new obeys is = (rests_broken old new (rests is_lawful state failures answers Settle reply old new refl obeys) is, refl)
-  broken_one Collect reply old new obeys is = (rests_broken old new (rests is_lawful state failures answers Collect reply old new refl obeys) is, refl)
-  broken_one NextOut reply old new obeys is = (rests_broken old new (rests is_lawful state failures answers NextOut reply old new refl obeys) is, refl)
-  broken_one Cut reply old new obeys is = (rests_broken old new (rests is_lawful state failures answers Cut reply old new refl obeys) is, refl)
-  broken_one (Answer v w) reply old new obeys is = (rests_broken old new (rests is_lawful state failures answers (Answer v w) reply old new refl obeys) is, refl)
-  broken_one (CutUpTo e) reply old new obeys is = (rests_broken old new (rests is_lawful state failures answers (CutUpTo e) reply old new refl obeys) is, refl)
+  broken_one Release reply old new obeys is = (rests_broken old new (rests view answers Release reply old new refl obeys) is, refl)
+  broken_one Settle reply old new obeys is = (rests_broken old new (rests view answers Settle reply old new refl obeys) is, refl)
+  broken_one Collect reply old new obeys is = (rests_broken old new (rests view answers Collect reply old new refl obeys) is, refl)
+  broken_one NextOut reply old new obeys is = (rests_broken old new (rests view answers NextOut reply old new refl obeys) is, refl)
+  broken_one Cut reply old new obeys is = (rests_broken old new (rests view answers Cut reply old new refl obeys) is, refl)
+  broken_one (Answer v w) reply old new obeys is = (rests_broken old new (rests view answers (Answer v w) reply old new refl obeys) is, refl)
+  broken_one (CutUpTo e) reply old new obeys is = (rests_broken old new (rests view answers (CutUpTo e) reply old new refl obeys) is, refl)
   broken_one WriteCut reply old new obeys is = (broken_writes reply old new obeys.0 is, refl)
   broken_one (CloseFree most) reply old new obeys is = (broken_closes most reply old new obeys.0 is, refl)
 
   -- A BROKEN KEEPER WRITES NOTHING, whatever it is told
-  pub driven_broken : (commands : List Command) (replies : List Reply) (old new : Keeping D) → Driven is_lawful state failures answers commands replies old new → old.broken ≡ true
+  pub driven_broken : (commands : List Command) (replies : List Reply) (old new : Keeping D) → Driven view answers commands replies old new → old.broken ≡ true
       → (new.device ≡ old.device) × (submitted_by commands replies ≡ []) × (new.broken ≡ true)
   driven_broken [] [] old new e is = (ap (λ k. k.device) e, refl, ap (λ k. k.broken) e ∙ is)
   driven_broken [] (r ∷ rs) old new none is = absurd none
@@ -609,10 +609,10 @@ module _ {D : Type 0} (is_lawful : D → Type 0) (state : D → DiskState) (fail
       let rest = driven_broken cs rs driven.0 new driven.3 first.0.broken in
       (rest.0 ∙ first.0.device, ap (λ (l : List AnySubmitted). l ++ submitted_by cs rs) first.1 ∙ rest.1, rest.2)
 
-module _ {D : Type 0} (is_lawful : D → Type 0) (state : D → DiskState) (failures : D → ℕ) (answers : Answers) (submit_on : Submit-on answers) (cut_on : Cut-on answers) (later : Later answers) (last : Last) where
+module _ {D : Type 0} (view : D → DiskView) (answers : Answers) (submit_on : Submit-on answers) (cut_on : Cut-on answers) (later : Later answers) (last : Last) where
   -- one command, and then others of a whole keeper
-  then_goes : (old mid new : Keeping D) (x y : List AnySubmitted) → Goes is_lawful state failures answers old mid x → old.broken ≡ false → mid.broken ≡ false
-      → Advances is_lawful state failures answers mid new y → Advances is_lawful state failures answers old new (x ++ y)
+  then_goes : (old mid new : Keeping D) (x y : List AnySubmitted) → Goes view answers old mid x → old.broken ≡ false → mid.broken ≡ false
+      → Advances view answers mid new y → Advances view answers old new (x ++ y)
   then_goes old mid new x y first whole goes_on rest = record {
     lawful = rest.lawful;
     later = omega (arith, first.advances.later, rest.later);
@@ -643,17 +643,17 @@ module _ {D : Type 0} (is_lawful : D → Type 0) (state : D → DiskState) (fail
       joined c told = of_old c (subst (λ p. TellsAdvance answers p mid.standing y (last_epoch mid.standing) c) first.plan told)
 
   -- or, where it broke, nothing more
-  then_broken : (old mid new : Keeping D) (x : List AnySubmitted) → Advances is_lawful state failures answers old mid x → new.device ≡ mid.device → Advances is_lawful state failures answers old new x
+  then_broken : (old mid new : Keeping D) (x : List AnySubmitted) → Advances view answers old mid x → new.device ≡ mid.device → Advances view answers old new x
   then_broken old mid new x first device = record {
-    lawful = subst is_lawful (sym device) first.lawful;
-    later = subst (λ (d : D). (state old.device).moment ≤ (state d).moment) (sym device) first.later;
-    since = λ whole t c le left. first.since whole t c le (subst (λ (d : D). (state d).since t c) device left);
+    lawful = subst (λ (d : D). (view d).lawful) (sym device) first.lawful;
+    later = subst (λ (d : D). (view old.device).state.moment ≤ (view d).state.moment) (sym device) first.later;
+    since = λ whole t c le left. first.since whole t c le (subst (λ (d : D). (view d).state.since t c) device left);
   }
 
   -- WHAT THE IMAGES TELL since an earlier moment: an advance of the standing with all that the commands submitted
-  pub driven_advances : (commands : List Command) (replies : List Reply) (old new : Keeping D) → IsKeeping old answers → Driven is_lawful state failures answers commands replies old new
-      → is_lawful old.device → old.broken ≡ false → Advances is_lawful state failures answers old new (submitted_by commands replies)
-  driven_advances [] [] old new kept e lawful whole = (goes_rests is_lawful state failures answers submit_on cut_on last old new (by old old new e (same old)) lawful).advances
+  pub driven_advances : (commands : List Command) (replies : List Reply) (old new : Keeping D) → IsKeeping old answers → Driven view answers commands replies old new
+      → (view old.device).lawful → old.broken ≡ false → Advances view answers old new (submitted_by commands replies)
+  driven_advances [] [] old new kept e lawful whole = (goes_rests view answers submit_on cut_on last old new (by old old new e (same old)) lawful).advances
   driven_advances [] (r ∷ rs) old new kept none lawful whole = absurd none
   driven_advances (c ∷ cs) [] old new kept none lawful whole = absurd none
   driven_advances (c ∷ cs) (r ∷ rs) old new kept driven lawful whole =
@@ -662,13 +662,13 @@ module _ {D : Type 0} (is_lawful : D → Type 0) (state : D → DiskState) (fail
       mid : Keeping D
       mid = driven.0
 
-      first : Goes is_lawful state failures answers old mid (submitted_in c r)
-      first = one is_lawful state failures answers submit_on cut_on last c r old mid kept driven.2 lawful
+      first : Goes view answers old mid (submitted_in c r)
+      first = one view answers submit_on cut_on last c r old mid kept driven.2 lawful
 
-      next : (b : Bool) → mid.broken ≡ b → (mid.broken ≡ false → Advances is_lawful state failures answers mid new (submitted_by cs rs)) → Advances is_lawful state failures answers old new (submitted_in c r ++ submitted_by cs rs)
+      next : (b : Bool) → mid.broken ≡ b → (mid.broken ≡ false → Advances view answers mid new (submitted_by cs rs)) → Advances view answers old new (submitted_in c r ++ submitted_by cs rs)
       next false goes_on rest = then_goes old mid new (submitted_in c r) (submitted_by cs rs) first whole goes_on (rest goes_on)
       next true broke rest =
-          let last = driven_broken is_lawful state failures answers cs rs mid new driven.3 broke in
-          subst (λ (l : List AnySubmitted). Advances is_lawful state failures answers old new (submitted_in c r ++ l)) (sym last.1)
-          (subst (λ (l : List AnySubmitted). Advances is_lawful state failures answers old new l) (sym (append-nil (submitted_in c r)))
+          let last = driven_broken view answers cs rs mid new driven.3 broke in
+          subst (λ (l : List AnySubmitted). Advances view answers old new (submitted_in c r ++ l)) (sym last.1)
+          (subst (λ (l : List AnySubmitted). Advances view answers old new l) (sym (append-nil (submitted_in c r)))
           (then_broken old mid new (submitted_in c r) first.advances last.0))

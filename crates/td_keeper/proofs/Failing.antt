@@ -3,11 +3,11 @@ use Rattle.std.proofs.Common.{◌≡◌, ⊎_elim, ℕ, ◌+◌, ◌≤◌, Bool
 use Rattle.std.specs.Prelude.{Option, Some, None, if◌then◌else◌}
 use Rattle.td_stamp.specs.declared.values.Entry.{Entry}
 use Rattle.td_calls.specs.Answers.{Answers}
-use Rattle.td_disk.specs.Disk.{DiskState}
+use Rattle.td_disk.specs.Disk.{DiskView, DiskState}
 use Rattle.td_machine.specs.State.{HallState}
 use Rattle.td_machine.specs.Active.{unpassed}
-use Rattle.td_standing.specs.declared.error.KeeperError.{KeeperError}
-use Rattle.td_standing.specs.declared.error.KeeperError.TheVariants as error
+use Rattle.td_store.specs.declared.standing.error.KeeperError.{KeeperError}
+use Rattle.td_store.specs.declared.standing.error.KeeperError.TheVariants as error
 use Rattle.td_journal.specs.declared.submitted.Submitted.{Submitted as AnySubmitted}
 use Rattle.td_keeper.specs.declared.group.GroupError.{GroupError}
 use Rattle.td_keeper.specs.declared.command.Command.{Command}
@@ -40,28 +40,28 @@ no_device k base (Some e) w is = chosen k base e (nat_le e (base + 1)) w is
 cut_never_device : {D : Type 0} (k : Keeping D) (S : HallState) (e : KeeperError) → cut_refusal k S ≡ Some e → is_device e ≡ true → ⊥
 cut_never_device k S e is said = no_device k S.base (unpassed S) k.waiting (is ∙ ap (λ (f : KeeperError). Some f) (is_device_is e said))
 
-module _ {D : Type 0} (is_lawful : D → Type 0) (state : D → DiskState) (failures : D → ℕ) (answers : Answers) where
+module _ {D : Type 0} (view : D → DiskView) (answers : Answers) where
   -- the count never falls
-  at_rest : (old new : Keeping D) → Rests old new → failures old.device ≤ failures new.device
-  at_rest old new is = subst (λ (d : D). failures old.device ≤ failures d) (sym is.device) (omega arith)
+  at_rest : (old new : Keeping D) → Rests old new → (view old.device).failures ≤ (view new.device).failures
+  at_rest old new is = subst (λ (d : D). (view old.device).failures ≤ (view d).failures) (sym is.device) (omega arith)
 
-  counted : (c : Command) (r : Reply) (old new : Keeping D) → Obeys is_lawful state failures answers c r old new → failures old.device ≤ failures new.device
+  counted : (c : Command) (r : Reply) (old new : Keeping D) → Obeys view answers c r old new → (view old.device).failures ≤ (view new.device).failures
   counted (Submit batch) r old new obeys = obeys.1.counted
   counted (SubmitAs request batch) r old new obeys = obeys.1.counted
   counted (SubmitAll group) r old new obeys = obeys.1.counted
   counted WriteCut r old new obeys = obeys.1.counted
   counted (CloseFree most) r old new obeys = obeys.1.counted
-  counted Release r old new obeys = at_rest old new (rests is_lawful state failures answers Release r old new refl obeys)
-  counted Settle r old new obeys = at_rest old new (rests is_lawful state failures answers Settle r old new refl obeys)
-  counted Collect r old new obeys = at_rest old new (rests is_lawful state failures answers Collect r old new refl obeys)
-  counted NextOut r old new obeys = at_rest old new (rests is_lawful state failures answers NextOut r old new refl obeys)
-  counted Cut r old new obeys = at_rest old new (rests is_lawful state failures answers Cut r old new refl obeys)
-  counted (Answer v w) r old new obeys = at_rest old new (rests is_lawful state failures answers (Answer v w) r old new refl obeys)
-  counted (CutUpTo m) r old new obeys = at_rest old new (rests is_lawful state failures answers (CutUpTo m) r old new refl obeys)
+  counted Release r old new obeys = at_rest old new (rests view answers Release r old new refl obeys)
+  counted Settle r old new obeys = at_rest old new (rests view answers Settle r old new refl obeys)
+  counted Collect r old new obeys = at_rest old new (rests view answers Collect r old new refl obeys)
+  counted NextOut r old new obeys = at_rest old new (rests view answers NextOut r old new refl obeys)
+  counted Cut r old new obeys = at_rest old new (rests view answers Cut r old new refl obeys)
+  counted (Answer v w) r old new obeys = at_rest old new (rests view answers (Answer v w) r old new refl obeys)
+  counted (CutUpTo m) r old new obeys = at_rest old new (rests view answers (CutUpTo m) r old new refl obeys)
 
-  pub driven_counted : (commands : List Command) (replies : List Reply) (old new : Keeping D) → Driven is_lawful state failures answers commands replies old new
-      → failures old.device ≤ failures new.device
-  driven_counted [] [] old new e = subst (λ (k : Keeping D). failures old.device ≤ failures k.device) (sym e) (omega arith)
+  pub driven_counted : (commands : List Command) (replies : List Reply) (old new : Keeping D) → Driven view answers commands replies old new
+      → (view old.device).failures ≤ (view new.device).failures
+  driven_counted [] [] old new e = subst (λ (k : Keeping D). (view old.device).failures ≤ (view k.device).failures) (sym e) (omega arith)
   driven_counted [] (r ∷ rs) old new none = absurd none
   driven_counted (c ∷ cs) [] old new none = absurd none
   driven_counted (c ∷ cs) (r ∷ rs) old new driven =
@@ -70,8 +70,8 @@ module _ {D : Type 0} (is_lawful : D → Type 0) (state : D → DiskState) (fail
       omega (arith, first, rest)
 
   -- WHERE A REPLY SAYS THAT THE DEVICE FAILED, the keeper is broken, and the count rose
-  failed : (c : Command) (e : KeeperError) (b : Option (List Entry)) (old new : Keeping D) → Obeys is_lawful state failures answers c (Refused e b) old new → is_device e ≡ true
-      → Fails is_lawful state failures answers old new
+  failed : (c : Command) (e : KeeperError) (b : Option (List Entry)) (old new : Keeping D) → Obeys view answers c (Refused e b) old new → is_device e ≡ true
+      → Fails view answers old new
   failed (Submit batch) e b old new obeys is = obeys.0.device (is_device_is e is)
   failed (SubmitAs request batch) e b old new obeys is = obeys.0.refused.device (is_device_is e is)
   failed (SubmitAll group) e b old new obeys is = absurd obeys.0
@@ -94,8 +94,8 @@ module _ {D : Type 0} (is_lawful : D → Type 0) (state : D → DiskState) (fail
       (λ other. ⊎_elim (λ memory. other_error e error.Memory memory.0 refl is)
       (λ unpassed. other_error e (error.NotPassed unpassed.0) unpassed.1 refl is) other) obeys.1)
 
-  failed_all : (c : Command) (e : GroupError) (b : List AnySubmitted) (old new : Keeping D) → Obeys is_lawful state failures answers c (RefusedAll e b) old new → is_of_device e ≡ true
-      → Fails is_lawful state failures answers old new
+  failed_all : (c : Command) (e : GroupError) (b : List AnySubmitted) (old new : Keeping D) → Obeys view answers c (RefusedAll e b) old new → is_of_device e ≡ true
+      → Fails view answers old new
   failed_all (SubmitAll group) e b old new obeys is = obeys.0.device (is_of_device_is e is)
   failed_all (Submit batch) e b old new obeys is = absurd obeys.0
   failed_all (SubmitAs request batch) e b old new obeys is = absurd obeys.0
@@ -109,7 +109,7 @@ module _ {D : Type 0} (is_lawful : D → Type 0) (state : D → DiskState) (fail
   failed_all (CutUpTo m) e b old new obeys is = absurd obeys
   failed_all (Answer v w) e b old new obeys is = absurd obeys
 
-  one_failed : (c : Command) (r : Reply) (old new : Keeping D) → Obeys is_lawful state failures answers c r old new → is_failed r ≡ true → Fails is_lawful state failures answers old new
+  one_failed : (c : Command) (r : Reply) (old new : Keeping D) → Obeys view answers c r old new → is_failed r ≡ true → Fails view answers old new
   one_failed c (Refused e b) old new obeys is = failed c e b old new obeys is
   one_failed c (Submitted n) old new obeys is = absurd (cc)
   one_failed c (SubmittedAs n) old new obeys is = absurd (cc)
@@ -124,8 +124,8 @@ module _ {D : Type 0} (is_lawful : D → Type 0) (state : D → DiskState) (fail
   one_failed c (Answered m ys) old new obeys is = absurd (cc)
   one_failed c Closed old new obeys is = absurd (cc)
 
-  pub driven_failed : (commands : List Command) (replies : List Reply) (old new : Keeping D) → Driven is_lawful state failures answers commands replies old new
-      → some_failed replies ≡ true → Fails is_lawful state failures answers old new
+  pub driven_failed : (commands : List Command) (replies : List Reply) (old new : Keeping D) → Driven view answers commands replies old new
+      → some_failed replies ≡ true → Fails view answers old new
   driven_failed [] [] old new e is = absurd (cc)
   driven_failed [] (r ∷ rs) old new none is = absurd none
   driven_failed (c ∷ cs) [] old new none is = absurd none
@@ -134,16 +134,16 @@ module _ {D : Type 0} (is_lawful : D → Type 0) (state : D → DiskState) (fail
       mid : Keeping D
       mid = driven.0
 
-      first : failures old.device ≤ failures mid.device
+      first : (view old.device).failures ≤ (view mid.device).failures
       first = counted c r old mid driven.2
 
-      rest : failures mid.device ≤ failures new.device
+      rest : (view mid.device).failures ≤ (view new.device).failures
       rest = driven_counted cs rs mid new driven.3
 
-      by : (b : Bool) → is_failed r ≡ b → (some_failed rs ≡ true → Fails is_lawful state failures answers mid new) → Fails is_lawful state failures answers old new
+      by : (b : Bool) → is_failed r ≡ b → (some_failed rs ≡ true → Fails view answers mid new) → Fails view answers old new
       by true said others =
           let here = one_failed c r old mid driven.2 said in
-          let stays = driven_broken is_lawful state failures answers cs rs mid new driven.3 here.broken in
+          let stays = driven_broken view answers cs rs mid new driven.3 here.broken in
           record { broken = stays.2; risen = omega (arith, here.risen, rest) }
       by false quiet others =
           let there = others (sym (ap (λ (b : Bool). b || some_failed rs) quiet) ∙ is) in
@@ -151,7 +151,7 @@ module _ {D : Type 0} (is_lawful : D → Type 0) (state : D → DiskState) (fail
 
   -- WHERE NONE DOES, the keeper is as whole as it was, and the count stays
   whole_refused : (refusal : Option KeeperError) (batch : List Entry) (e : KeeperError) (b : Option (List Entry)) (old new : Keeping D)
-      → IsNotSubmitted is_lawful state failures answers refusal batch e b old new → is_device e ≡ false → new.broken ≡ old.broken
+      → IsNotSubmitted view answers refusal batch e b old new → is_device e ≡ false → new.broken ≡ old.broken
   whole_refused refusal batch e b old new r quiet =
       ⊎_elim (λ is. ap (λ k. k.broken) is)
       (λ other. ⊎_elim (λ is. ap (λ k. k.broken) is.1) (λ is. absurd (let both : true ≡ false = sym (ap is_device is.0) ∙ quiet in cc)) other) r.unchanged
@@ -160,7 +160,7 @@ module _ {D : Type 0} (is_lawful : D → Type 0) (state : D → DiskState) (fail
   whole_received request batch (New epoch) old new r = ap (λ k. k.broken) r.2
   whole_received request batch (Already last) old new r = ap (λ k. k.broken) r.2
 
-  whole_submit_as : (request : ℕ) (batch : List Entry) (r : Reply) (old new : Keeping D) → SubmitsAs is_lawful state failures answers request batch r old new → is_failed r ≡ false → new.broken ≡ old.broken
+  whole_submit_as : (request : ℕ) (batch : List Entry) (r : Reply) (old new : Keeping D) → SubmitsAs view answers request batch r old new → is_failed r ≡ false → new.broken ≡ old.broken
   whole_submit_as request batch (SubmittedAs receipt) old new r quiet = whole_received request batch receipt old new r.received
   whole_submit_as request batch (Refused e b) old new r quiet = whole_refused (submit_as_refusal old request batch) batch e b old new r.refused quiet
   whole_submit_as request batch (Submitted n) old new r quiet = absurd r
@@ -175,7 +175,7 @@ module _ {D : Type 0} (is_lawful : D → Type 0) (state : D → DiskState) (fail
   whole_submit_as request batch (Answered m ys) old new r quiet = absurd r
   whole_submit_as request batch Closed old new r quiet = absurd r
 
-  whole_submit : (batch : List Entry) (r : Reply) (old new : Keeping D) → Submits is_lawful state failures answers batch r old new → is_failed r ≡ false → new.broken ≡ old.broken
+  whole_submit : (batch : List Entry) (r : Reply) (old new : Keeping D) → Submits view answers batch r old new → is_failed r ≡ false → new.broken ≡ old.broken
   whole_submit batch (Submitted n) old new r quiet = ap (λ k. k.broken) r.submitted
   whole_submit batch (Refused e b) old new r quiet = whole_refused (submit_refusal old batch) batch e b old new r quiet
   whole_submit batch (SubmittedAs n) old new r quiet = absurd r
@@ -194,7 +194,7 @@ module _ {D : Type 0} (is_lawful : D → Type 0) (state : D → DiskState) (fail
   whole_group [] old new is = ap (λ k. k.broken) is
   whole_group (x ∷ xs) old new is = ap (λ k. k.broken) is
 
-  whole_submit_all : (group : List AnySubmitted) (r : Reply) (old new : Keeping D) → SubmitsAll is_lawful state failures answers group r old new → is_failed r ≡ false → new.broken ≡ old.broken
+  whole_submit_all : (group : List AnySubmitted) (r : Reply) (old new : Keeping D) → SubmitsAll view answers group r old new → is_failed r ≡ false → new.broken ≡ old.broken
   whole_submit_all group (SubmittedAll n m) old new r quiet = whole_group group old new r.submitted
   whole_submit_all group (RefusedAll e back) old new r quiet =
       ⊎_elim (λ is. ap (λ k. k.broken) is)
@@ -211,7 +211,7 @@ module _ {D : Type 0} (is_lawful : D → Type 0) (state : D → DiskState) (fail
   whole_submit_all group Closed old new r quiet = absurd r
   whole_submit_all group (Refused e b) old new r quiet = absurd r
 
-  whole_write : (r : Reply) (old new : Keeping D) → Writes is_lawful state failures answers r old new → is_failed r ≡ false → new.broken ≡ old.broken
+  whole_write : (r : Reply) (old new : Keeping D) → Writes view answers r old new → is_failed r ≡ false → new.broken ≡ old.broken
   whole_write (Written w) old new r quiet = ⊎_elim (λ none. ap (λ k. k.broken) none.2) (λ some. ap (λ k. k.broken) some.1) r.cut
   whole_write (Refused e b) old new r quiet =
       ⊎_elim (λ is. ap (λ k. k.broken) is.1)
@@ -228,7 +228,7 @@ module _ {D : Type 0} (is_lawful : D → Type 0) (state : D → DiskState) (fail
   whole_write (Answered m ys) old new r quiet = absurd r
   whole_write Closed old new r quiet = absurd r
 
-  whole_close : (most : ℕ) (r : Reply) (old new : Keeping D) → ClosesFree is_lawful state failures answers most r old new → is_failed r ≡ false → new.broken ≡ old.broken
+  whole_close : (most : ℕ) (r : Reply) (old new : Keeping D) → ClosesFree view answers most r old new → is_failed r ≡ false → new.broken ≡ old.broken
   whole_close most Closed old new r quiet = ap (λ k. k.broken) r.same
   whole_close most (Refused e b) old new r quiet =
       ⊎_elim (λ is. ap (λ k. k.broken) is) (λ is. absurd (let both : true ≡ false = sym (ap is_device is.0) ∙ quiet in cc)) r.unchanged
@@ -245,27 +245,27 @@ module _ {D : Type 0} (is_lawful : D → Type 0) (state : D → DiskState) (fail
   whole_close most (Written w) old new r quiet = absurd r
 
   -- of one that is as it was
-  as_whole : (old new : Keeping D) → Rests old new → (new.broken ≡ old.broken) × (failures new.device ≡ failures old.device)
-  as_whole old new is = (is.broken, ap failures is.device)
+  as_whole : (old new : Keeping D) → Rests old new → (new.broken ≡ old.broken) × ((view new.device).failures ≡ (view old.device).failures)
+  as_whole old new is = (is.broken, ap (λ (d : D). (view d).failures) is.device)
 
-  one_whole : (c : Command) (r : Reply) (old new : Keeping D) → Obeys is_lawful state failures answers c r old new → is_failed r ≡ false
-      → (new.broken ≡ old.broken) × (failures new.device ≡ failures old.device)
+  one_whole : (c : Command) (r : Reply) (old new : Keeping D) → Obeys view answers c r old new → is_failed r ≡ false
+      → (new.broken ≡ old.broken) × ((view new.device).failures ≡ (view old.device).failures)
   one_whole (Submit batch) r old new obeys quiet = (whole_submit batch r old new obeys.0 quiet, obeys.1.stays quiet)
   one_whole (SubmitAs request batch) r old new obeys quiet = (whole_submit_as request batch r old new obeys.0 quiet, obeys.1.stays quiet)
   one_whole (SubmitAll group) r old new obeys quiet = (whole_submit_all group r old new obeys.0 quiet, obeys.1.stays quiet)
   one_whole WriteCut r old new obeys quiet = (whole_write r old new obeys.0 quiet, obeys.1.stays quiet)
   one_whole (CloseFree most) r old new obeys quiet = (whole_close most r old new obeys.0 quiet, obeys.1.stays quiet)
-  one_whole Release r old new obeys quiet = as_whole old new (rests is_lawful state failures answers Release r old new refl obeys)
-  one_whole Settle r old new obeys quiet = as_whole old new (rests is_lawful state failures answers Settle r old new refl obeys)
-  one_whole Collect r old new obeys quiet = as_whole old new (rests is_lawful state failures answers Collect r old new refl obeys)
-  one_whole NextOut r old new obeys quiet = as_whole old new (rests is_lawful state failures answers NextOut r old new refl obeys)
-  one_whole Cut r old new obeys quiet = as_whole old new (rests is_lawful state failures answers Cut r old new refl obeys)
-  one_whole (Answer v w) r old new obeys quiet = as_whole old new (rests is_lawful state failures answers (Answer v w) r old new refl obeys)
-  one_whole (CutUpTo m) r old new obeys quiet = as_whole old new (rests is_lawful state failures answers (CutUpTo m) r old new refl obeys)
+  one_whole Release r old new obeys quiet = as_whole old new (rests view answers Release r old new refl obeys)
+  one_whole Settle r old new obeys quiet = as_whole old new (rests view answers Settle r old new refl obeys)
+  one_whole Collect r old new obeys quiet = as_whole old new (rests view answers Collect r old new refl obeys)
+  one_whole NextOut r old new obeys quiet = as_whole old new (rests view answers NextOut r old new refl obeys)
+  one_whole Cut r old new obeys quiet = as_whole old new (rests view answers Cut r old new refl obeys)
+  one_whole (Answer v w) r old new obeys quiet = as_whole old new (rests view answers (Answer v w) r old new refl obeys)
+  one_whole (CutUpTo m) r old new obeys quiet = as_whole old new (rests view answers (CutUpTo m) r old new refl obeys)
 
-  pub driven_whole : (commands : List Command) (replies : List Reply) (old new : Keeping D) → Driven is_lawful state failures answers commands replies old new
-      → some_failed replies ≡ false → (new.broken ≡ old.broken) × (failures new.device ≡ failures old.device)
-  driven_whole [] [] old new e quiet = (ap (λ k. k.broken) e, ap (λ (k : Keeping D). failures k.device) e)
+  pub driven_whole : (commands : List Command) (replies : List Reply) (old new : Keeping D) → Driven view answers commands replies old new
+      → some_failed replies ≡ false → (new.broken ≡ old.broken) × ((view new.device).failures ≡ (view old.device).failures)
+  driven_whole [] [] old new e quiet = (ap (λ k. k.broken) e, ap (λ (k : Keeping D). (view k.device).failures) e)
   driven_whole [] (r ∷ rs) old new none quiet = absurd none
   driven_whole (c ∷ cs) [] old new none quiet = absurd none
   driven_whole (c ∷ cs) (r ∷ rs) old new driven quiet = by (is_failed r) refl (λ later. driven_whole cs rs driven.0 new driven.3 later)
@@ -273,8 +273,8 @@ module _ {D : Type 0} (is_lawful : D → Type 0) (state : D → DiskState) (fail
       mid : Keeping D
       mid = driven.0
 
-      by : (b : Bool) → is_failed r ≡ b → (some_failed rs ≡ false → (new.broken ≡ mid.broken) × (failures new.device ≡ failures mid.device))
-          → (new.broken ≡ old.broken) × (failures new.device ≡ failures old.device)
+      by : (b : Bool) → is_failed r ≡ b → (some_failed rs ≡ false → (new.broken ≡ mid.broken) × ((view new.device).failures ≡ (view mid.device).failures))
+          → (new.broken ≡ old.broken) × ((view new.device).failures ≡ (view old.device).failures)
       by true said others = absurd (let both : true ≡ false = sym (ap (λ (b : Bool). b || some_failed rs) said) ∙ quiet in cc)
       by false here others =
           let first = one_whole c r old mid driven.2 here in

@@ -13,9 +13,9 @@ use Rattle.td_batch.specs.Meaning.{run, numbered}
 use Rattle.td_machine.specs.State.{HallState}
 use Rattle.td_machine.specs.Steps.{collect_step, to_collect, outputs_at}
 use Rattle.td_machine.specs.Sound.{outs_by}
-use Rattle.td_disk.specs.Disk.{DiskState}
+use Rattle.td_disk.specs.Disk.{DiskView, DiskState}
 use Rattle.td_journal.specs.declared.submitted.Submitted.{Submitted as AnySubmitted}
-use Rattle.td_standing.specs.Standing.{Standing, last_epoch, submission, batches_of, with_more, cut_at}
+use Rattle.td_store.specs.standing.Standing.{Standing, last_epoch, submission, batches_of, with_more, cut_at}
 use Rattle.td_keeper.specs.declared.group.GroupError.{GroupError}
 use Rattle.td_keeper.specs.declared.group.GroupError.TheVariants.{Keeper}
 use Rattle.td_keeper.specs.declared.command.Command.{Command}
@@ -24,8 +24,8 @@ use Rattle.td_keeper.specs.declared.command.Reply.{Reply}
 use Rattle.td_keeper.specs.declared.command.Reply.TheVariants.{Submitted, SubmittedAs, SubmittedAll, Released, Settled, Collected, Out, CutTaken, Answered, Written, Closed, Refused, RefusedAll}
 use Rattle.td_keeper.specs.Keeping.{Keeping, IsKeeping, with_batch, with_group}
 use Rattle.td_keeper.specs.Halls.{IsOwn, meant_outs, with_collected}
-use Rattle.td_standing.specs.declared.error.KeeperError.{KeeperError}
-use Rattle.td_standing.specs.declared.error.KeeperError.TheVariants as error
+use Rattle.td_store.specs.declared.standing.error.KeeperError.{KeeperError}
+use Rattle.td_store.specs.declared.standing.error.KeeperError.TheVariants as error
 use Rattle.td_keeper.specs.declared.receipt.Receipt.{Receipt}
 use Rattle.td_keeper.specs.declared.receipt.Receipt.TheVariants.{New, Already}
 use Rattle.td_keeper.specs.Received.{IsReceived, received_in}
@@ -254,7 +254,7 @@ module _ {D : Type 0} (answers : Answers) (outs_join : OutsJoin answers) where
             ∙ ap (λ (l : List EpochOut). l ++ outs_beyond old answers y new.collected) (sym queue);
       }
 
-module _ {D : Type 0} (is_lawful : D → Type 0) (state : D → DiskState) (failures : D → ℕ) (answers : Answers) (outs_join : OutsJoin answers) (last : Last) where
+module _ {D : Type 0} (view : D → DiskView) (answers : Answers) (outs_join : OutsJoin answers) (last : Last) where
   -- the batch is the next epoch
   hands_submitted : (request : ℕ) (batch : List Entry) (old mid new : Keeping D) (y : List AnySubmitted) (hs : List EpochOut) → mid ≡ with_batch old mid.device request batch
       → HandsOn answers mid new y hs → HandsOn answers old new (submission request batch ∷ [] ++ y) hs
@@ -271,7 +271,7 @@ module _ {D : Type 0} (is_lawful : D → Type 0) (state : D → DiskState) (fail
 
   -- or it is not
   hands_refused : (refusal : Option KeeperError) (x : List AnySubmitted) (batch : List Entry) (e : KeeperError) (b : Option (List Entry)) (old mid new : Keeping D) (y : List AnySubmitted) (hs : List EpochOut)
-      → IsKeeping old answers → IsNotSubmitted is_lawful state failures answers refusal batch e b old mid → (mid.broken ≡ true → y ≡ []) → HandsOn answers mid new y hs
+      → IsKeeping old answers → IsNotSubmitted view answers refusal batch e b old mid → (mid.broken ≡ true → y ≡ []) → HandsOn answers mid new y hs
       → HandsOn answers old new ((if is_device e then x else []) ++ y) hs
   hands_refused refusal x batch e b old mid new y hs kept r none rest = by (is_device e) refl
     where
@@ -296,7 +296,7 @@ module _ {D : Type 0} (is_lawful : D → Type 0) (state : D → DiskState) (fail
       one_more answers outs_join old mid new (x ∷ xs) y hs (ap (λ k. k.plan) is) (ap (λ k. k.standing) is) (ap (λ k. k.collected) is) (ap (λ k. k.queue) is) rest
 
   hands_none : (group : List AnySubmitted) (e : GroupError) (back : List AnySubmitted) (old mid new : Keeping D) (y : List AnySubmitted) (hs : List EpochOut)
-      → IsKeeping old answers → IsNoneSubmitted is_lawful state failures answers group e back old mid → (mid.broken ≡ true → y ≡ []) → HandsOn answers mid new y hs
+      → IsKeeping old answers → IsNoneSubmitted view answers group e back old mid → (mid.broken ≡ true → y ≡ []) → HandsOn answers mid new y hs
       → HandsOn answers old new ((if is_of_device e then group else []) ++ y) hs
   hands_none group e back old mid new y hs kept r none rest = by (is_of_device e) refl
     where
@@ -320,7 +320,7 @@ module _ {D : Type 0} (is_lawful : D → Type 0) (state : D → DiskState) (fail
 
   -- ONE COMMAND, and then others
   hands : (c : Command) (r : Reply) (old mid new : Keeping D) (y : List AnySubmitted) (hs : List EpochOut) → IsKeeping old answers → IsKeeping mid answers
-      → Obeys is_lawful state failures answers c r old mid → (mid.broken ≡ true → y ≡ []) → HandsOn answers mid new y hs → HandsOn answers old new (submitted_in c r ++ y) (handed_in r ++ hs)
+      → Obeys view answers c r old mid → (mid.broken ≡ true → y ≡ []) → HandsOn answers mid new y hs → HandsOn answers old new (submitted_in c r ++ y) (handed_in r ++ hs)
   hands (Submit batch) (Submitted n) old mid new y hs kept kept_mid obeys none rest = hands_submitted 0 batch old mid new y hs obeys.0.submitted rest
   hands (Submit batch) (Refused e b) old mid new y hs kept kept_mid obeys none rest =
       hands_refused (submit_refusal old batch) (submission 0 batch ∷ []) batch e b old mid new y hs kept obeys.0 none rest
@@ -537,7 +537,7 @@ module _ {D : Type 0} (is_lawful : D → Type 0) (state : D → DiskState) (fail
   hands (CloseFree most) (Written w) old mid new y hs kept kept_mid obeys none rest = absurd obeys.0
 
   -- WHAT COMMANDS HAND OUT
-  pub driven_hands : (commands : List Command) (replies : List Reply) (old new : Keeping D) → IsKeeping old answers → Driven is_lawful state failures answers commands replies old new
+  pub driven_hands : (commands : List Command) (replies : List Reply) (old new : Keeping D) → IsKeeping old answers → Driven view answers commands replies old new
       → HandsOn answers old new (submitted_by commands replies) (handed_out replies)
   driven_hands [] [] old new kept e =
       subst (λ (k : Keeping D). HandsOn answers old k [] []) (sym e) (record {
@@ -552,5 +552,5 @@ module _ {D : Type 0} (is_lawful : D → Type 0) (state : D → DiskState) (fail
   driven_hands (c ∷ cs) [] old new kept none = absurd none
   driven_hands (c ∷ cs) (r ∷ rs) old new kept driven =
       hands c r old driven.0 new (submitted_by cs rs) (handed_out rs) kept driven.1 driven.2
-      (λ broke. (driven_broken is_lawful state failures answers cs rs driven.0 new driven.3 broke).1)
+      (λ broke. (driven_broken view answers cs rs driven.0 new driven.3 broke).1)
       (driven_hands cs rs driven.0 new driven.1 driven.3)

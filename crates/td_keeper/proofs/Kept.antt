@@ -14,11 +14,11 @@ use Rattle.td_slots.specs.Slot.{are_states}
 use Rattle.td_slots.specs.declared.slots.Checkpoint.{Checkpoint}
 use Rattle.td_journal.specs.Cell.{is_batch}
 use Rattle.td_journal.specs.declared.submitted.Submitted.{Submitted}
-use Rattle.td_group.specs.Groups.{AreBatches}
-use Rattle.td_standing.specs.Standing.{Standing, standing_from, batches_of, last_epoch, nothing_told, with_more, cut_at}
-use Rattle.td_standing.specs.Told.{inputs_of, folds_of}
-use Rattle.td_standing.specs.Tells.{side_after}
-use Rattle.td_standing.specs.Read.{MayStand}
+use Rattle.td_store.specs.group.Groups.{AreBatches}
+use Rattle.td_store.specs.standing.Standing.{Standing, standing_from, batches_of, last_epoch, nothing_told, with_more, cut_at}
+use Rattle.td_store.specs.standing.Told.{inputs_of, folds_of}
+use Rattle.td_store.specs.standing.Tells.{side_after}
+use Rattle.td_store.specs.standing.Read.{MayStand}
 use Rattle.td_watch.specs.View.{View}
 use Rattle.td_watch.specs.Words.{IsAtMost, KeepsOrder}
 use Rattle.td_keeper.specs.Keeping.{Keeping, keeping_of, IsKeeping, IsFreshlyOpened, with_epochs, with_checkpoint, words_at, words_of, published, IsBelow}

@@ -10,7 +10,7 @@ use Rattle.td_machine.specs.Active.{has_passed}
 use Rattle.td_machine.specs.Steps.{opened, cut_to, cut_at_by}
 use Rattle.td_machine.specs.Sound.{Sound}
 use Rattle.td_core.specs.Drained.{IsKept}
-use Rattle.td_standing.specs.Standing.{batches_of, submission}
+use Rattle.td_store.specs.standing.Standing.{batches_of, submission}
 use Rattle.td_keeper.specs.declared.receipt.Receipt.{Receipt}
 use Rattle.td_keeper.specs.declared.receipt.Receipt.TheVariants.{New, Already}
 use Rattle.td_keeper.specs.Received.{IsReceived}

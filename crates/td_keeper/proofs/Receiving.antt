@@ -8,15 +8,15 @@ use Rattle.td_plan.specs.Tree.{Nodes, tree_of}
 use Rattle.td_calls.specs.Answers.{Answers}
 use Rattle.td_batch.specs.Meaning.{run}
 use Rattle.td_head.specs.declared.head.Head.{Head}
-use Rattle.td_disk.specs.Disk.{DiskState}
+use Rattle.td_disk.specs.Disk.{DiskView, DiskState}
 use Rattle.td_journal.specs.Numbers.{greatest}
 use Rattle.td_journal.specs.declared.submitted.Submitted.{Submitted as AnySubmitted}
-use Rattle.td_standing.specs.Standing.{Standing, last_epoch, last_request, submission, with_more, cut_at}
-use Rattle.td_standing.specs.Stops.{Advance, Holds}
-use Rattle.td_standing.specs.Told.{Told}
-use Rattle.td_standing.specs.Tells.{Tells}
-use Rattle.td_standing.specs.Advanced.{HeldWhere}
-use Rattle.td_standing.specs.declared.error.KeeperError.TheVariants as error
+use Rattle.td_store.specs.standing.Standing.{Standing, last_epoch, last_request, submission, with_more, cut_at}
+use Rattle.td_store.specs.standing.Stops.{Advance, Holds}
+use Rattle.td_store.specs.standing.Told.{Told}
+use Rattle.td_store.specs.standing.Tells.{Tells}
+use Rattle.td_store.specs.standing.Advanced.{HeldWhere}
+use Rattle.td_store.specs.declared.standing.error.KeeperError.TheVariants as error
 use Rattle.td_keeper.specs.declared.group.GroupError.TheVariants.{Keeper}
 use Rattle.td_keeper.specs.declared.command.Command.{Command}
 use Rattle.td_keeper.specs.declared.command.Command.TheVariants.{Submit, SubmitAs, SubmitAll, Release, Settle, Collect, NextOut, Cut, CutUpTo, Answer, WriteCut, CloseFree}
@@ -67,8 +67,8 @@ module _ {D : Type 0} (more : More) where
       ⊎_elim (λ is. alike old new (ap (λ k. k.standing) is))
       (λ other. ⊎_elim (λ is. alike old new (ap (λ k. k.standing) is.1)) (λ is. alike old new (ap (λ k. k.standing) is.1)) other) left
 
-module _ {D : Type 0} (is_lawful : D → Type 0) (state : D → DiskState) (failures : D → ℕ) (answers : Answers) (more : More) (at_cut : AtCut) where
-  submits : (batch : List Entry) (r : Reply) (old new : Keeping D) → Submits is_lawful state failures answers batch r old new → last_request old.standing ≤ last_request new.standing
+module _ {D : Type 0} (view : D → DiskView) (answers : Answers) (more : More) (at_cut : AtCut) where
+  submits : (batch : List Entry) (r : Reply) (old new : Keeping D) → Submits view answers batch r old new → last_request old.standing ≤ last_request new.standing
   submits batch (Submitted n) old new r = risen more 0 batch old new r.submitted
   submits batch (Refused e b) old new r = refused more old new (e ≡ error.Memory) (e ≡ error.Device) r.unchanged
   submits batch (SubmittedAs n) old new r = absurd r
@@ -83,7 +83,7 @@ module _ {D : Type 0} (is_lawful : D → Type 0) (state : D → DiskState) (fail
   submits batch (Answered m ys) old new r = absurd r
   submits batch Closed old new r = absurd r
 
-  submits_as : (request : ℕ) (batch : List Entry) (r : Reply) (old new : Keeping D) → SubmitsAs is_lawful state failures answers request batch r old new → last_request old.standing ≤ last_request new.standing
+  submits_as : (request : ℕ) (batch : List Entry) (r : Reply) (old new : Keeping D) → SubmitsAs view answers request batch r old new → last_request old.standing ≤ last_request new.standing
   submits_as request batch (SubmittedAs receipt) old new r = received more request batch receipt old new r.received
   submits_as request batch (Refused e b) old new r = refused more old new (e ≡ error.Memory) (e ≡ error.Device) r.refused.unchanged
   submits_as request batch (Submitted n) old new r = absurd r
@@ -98,7 +98,7 @@ module _ {D : Type 0} (is_lawful : D → Type 0) (state : D → DiskState) (fail
   submits_as request batch (Answered m ys) old new r = absurd r
   submits_as request batch Closed old new r = absurd r
 
-  submits_all : (group : List AnySubmitted) (r : Reply) (old new : Keeping D) → SubmitsAll is_lawful state failures answers group r old new → last_request old.standing ≤ last_request new.standing
+  submits_all : (group : List AnySubmitted) (r : Reply) (old new : Keeping D) → SubmitsAll view answers group r old new → last_request old.standing ≤ last_request new.standing
   submits_all group (SubmittedAll n m) old new r = of_group more group old new r.submitted
   submits_all group (RefusedAll e back) old new r = refused more old new (e ≡ Keeper error.Memory) (e ≡ Keeper error.Device) r.unchanged
   submits_all group (Submitted n) old new r = absurd r
@@ -113,7 +113,7 @@ module _ {D : Type 0} (is_lawful : D → Type 0) (state : D → DiskState) (fail
   submits_all group Closed old new r = absurd r
   submits_all group (Refused e b) old new r = absurd r
 
-  writes : (r : Reply) (old new : Keeping D) → Writes is_lawful state failures answers r old new → last_request old.standing ≤ last_request new.standing
+  writes : (r : Reply) (old new : Keeping D) → Writes view answers r old new → last_request old.standing ≤ last_request new.standing
   writes (Written w) old new r =
       ⊎_elim (λ none. alike more old new (ap (λ k. k.standing) none.2))
       (λ some. subst (λ (s : Standing). last_request old.standing ≤ last_request s) (sym (ap (λ k. k.standing) some.1)) (cut_same old))
@@ -136,7 +136,7 @@ module _ {D : Type 0} (is_lawful : D → Type 0) (state : D → DiskState) (fail
   writes (Answered m ys) old new r = absurd r
   writes Closed old new r = absurd r
 
-  closes : (most : ℕ) (r : Reply) (old new : Keeping D) → ClosesFree is_lawful state failures answers most r old new → last_request old.standing ≤ last_request new.standing
+  closes : (most : ℕ) (r : Reply) (old new : Keeping D) → ClosesFree view answers most r old new → last_request old.standing ≤ last_request new.standing
   closes most Closed old new r = alike more old new (ap (λ k. k.standing) r.same)
   closes most (Refused e b) old new r = ⊎_elim (λ is. alike more old new (ap (λ k. k.standing) is)) (λ failed. alike more old new (ap (λ k. k.standing) failed.1)) r.unchanged
   closes most (Submitted n) old new r = absurd r
@@ -154,22 +154,22 @@ module _ {D : Type 0} (is_lawful : D → Type 0) (state : D → DiskState) (fail
   rested : (old new : Keeping D) → Rests old new → last_request old.standing ≤ last_request new.standing
   rested old new is = alike more old new is.standing
 
-  one : (c : Command) (r : Reply) (old new : Keeping D) → Obeys is_lawful state failures answers c r old new → last_request old.standing ≤ last_request new.standing
+  one : (c : Command) (r : Reply) (old new : Keeping D) → Obeys view answers c r old new → last_request old.standing ≤ last_request new.standing
   one (Submit batch) r old new obeys = submits batch r old new obeys.0
   one (SubmitAs request batch) r old new obeys = submits_as request batch r old new obeys.0
   one (SubmitAll group) r old new obeys = submits_all group r old new obeys.0
   one WriteCut r old new obeys = writes r old new obeys.0
   one (CloseFree most) r old new obeys = closes most r old new obeys.0
-  one Release r old new obeys = rested old new (rests is_lawful state failures answers Release r old new refl obeys)
-  one Settle r old new obeys = rested old new (rests is_lawful state failures answers Settle r old new refl obeys)
-  one Collect r old new obeys = rested old new (rests is_lawful state failures answers Collect r old new refl obeys)
-  one NextOut r old new obeys = rested old new (rests is_lawful state failures answers NextOut r old new refl obeys)
-  one Cut r old new obeys = rested old new (rests is_lawful state failures answers Cut r old new refl obeys)
-  one (Answer v w) r old new obeys = rested old new (rests is_lawful state failures answers (Answer v w) r old new refl obeys)
-  one (CutUpTo e) r old new obeys = rested old new (rests is_lawful state failures answers (CutUpTo e) r old new refl obeys)
+  one Release r old new obeys = rested old new (rests view answers Release r old new refl obeys)
+  one Settle r old new obeys = rested old new (rests view answers Settle r old new refl obeys)
+  one Collect r old new obeys = rested old new (rests view answers Collect r old new refl obeys)
+  one NextOut r old new obeys = rested old new (rests view answers NextOut r old new refl obeys)
+  one Cut r old new obeys = rested old new (rests view answers Cut r old new refl obeys)
+  one (Answer v w) r old new obeys = rested old new (rests view answers (Answer v w) r old new refl obeys)
+  one (CutUpTo e) r old new obeys = rested old new (rests view answers (CutUpTo e) r old new refl obeys)
 
   -- WHATEVER A KEEPER IS TOLD
-  pub driven_rises : (commands : List Command) (replies : List Reply) (old new : Keeping D) → Driven is_lawful state failures answers commands replies old new
+  pub driven_rises : (commands : List Command) (replies : List Reply) (old new : Keeping D) → Driven view answers commands replies old new
       → last_request old.standing ≤ last_request new.standing
   driven_rises [] [] old new e = alike more old new (ap (λ k. k.standing) e)
   driven_rises [] (r ∷ rs) old new none = absurd none

@@ -7,7 +7,7 @@ use Rattle.td_calls.specs.Answers.{Answers}
 use Rattle.td_machine.specs.State.{HallState}
 use Rattle.td_machine.specs.Sound.{Sound}
 use Rattle.td_machine.specs.Reached.{IsReached}
-use Rattle.td_disk.specs.Disk.{DiskState}
+use Rattle.td_disk.specs.Disk.{DiskView, DiskState}
 use Rattle.td_journal.specs.declared.submitted.Submitted.{Submitted as AnySubmitted}
 use Rattle.td_questions.specs.declared.question.Wanted.{Wanted}
 use Rattle.td_keeper.specs.declared.command.Command.{Command}
@@ -64,63 +64,63 @@ module _ {D : Type 0} where
 further : (plan : List Line) (last next : ℕ) (old new : DiskState) → last ≤ next → KeepsSince plan last old new → KeepsSince plan next old new
 further plan last next old new on keeps t c le left = ⊎_elim (λ was. inl was) (λ kept. inr (λ s told. let low = kept s told in omega (arith, low, on))) (keeps t c le left)
 
-module _ {D : Type 0} (is_lawful : D → Type 0) (state : D → DiskState) (failures : D → ℕ) (answers : Answers) where
-  submits : (batch : List Entry) (reply : Reply) (old new : Keeping D) → Submits is_lawful state failures answers batch reply old new → SameBase old new
+module _ {D : Type 0} (view : D → DiskView) (answers : Answers) where
+  submits : (batch : List Entry) (reply : Reply) (old new : Keeping D) → Submits view answers batch reply old new → SameBase old new
   submits batch (Submitted n) old new r = by r.submitted (record { plan = refl; base = refl })
   submits batch (Refused e back) old new r = aside _ _ r.unchanged
   submits batch other old new r = absurd r
 
-  submits_as : (request : ℕ) (batch : List Entry) (reply : Reply) (old new : Keeping D) → SubmitsAs is_lawful state failures answers request batch reply old new → SameBase old new
+  submits_as : (request : ℕ) (batch : List Entry) (reply : Reply) (old new : Keeping D) → SubmitsAs view answers request batch reply old new → SameBase old new
   submits_as request batch (SubmittedAs receipt) old new r = received request batch receipt old new r.received
   submits_as request batch (Refused e back) old new r = aside _ _ r.refused.unchanged
   submits_as request batch other old new r = absurd r
 
-  submits_all : (group : List AnySubmitted) (reply : Reply) (old new : Keeping D) → SubmitsAll is_lawful state failures answers group reply old new → SameBase old new
+  submits_all : (group : List AnySubmitted) (reply : Reply) (old new : Keeping D) → SubmitsAll view answers group reply old new → SameBase old new
   submits_all group (SubmittedAll n m) old new r = by r.submitted (by_group old new.device group)
   submits_all group (RefusedAll e back) old new r = aside _ _ r.unchanged
   submits_all group other old new r = absurd r
 
-  releases : (reply : Reply) (old new : Keeping D) → Releases is_lawful state failures answers reply old new → SameBase old new
+  releases : (reply : Reply) (old new : Keeping D) → Releases view answers reply old new → SameBase old new
   releases (Released n) old new r = by r.same (itself old)
   releases (Refused e b) old new r = ⊎_elim (λ foreign. by foreign.1.same (itself old)) (λ memory. by memory.1.same (itself old)) r.1
   releases other old new r = absurd r
 
-  settles : (reply : Reply) (old new : Keeping D) → Settles is_lawful state failures answers reply old new → SameBase old new
+  settles : (reply : Reply) (old new : Keeping D) → Settles view answers reply old new → SameBase old new
   settles Settled old new r = by r.same (itself old)
   settles (Refused e b) old new r = by r.1.2.same (itself old)
   settles other old new r = absurd r
 
-  collects : (reply : Reply) (old new : Keeping D) → Collects is_lawful state failures answers reply old new → SameBase old new
+  collects : (reply : Reply) (old new : Keeping D) → Collects view answers reply old new → SameBase old new
   collects (Collected n) old new r = by r.collected (record { plan = refl; base = refl })
   collects (Refused e b) old new r = ⊎_elim (λ foreign. by foreign.1.same (itself old)) (λ memory. by memory.1.same (itself old)) r.1
   collects other old new r = absurd r
 
-  hands_out : (reply : Reply) (old new : Keeping D) → HandsOut is_lawful state failures answers reply old new → SameBase old new
+  hands_out : (reply : Reply) (old new : Keeping D) → HandsOut view answers reply old new → SameBase old new
   hands_out (Out None) old new r = by r.1 (itself old)
   hands_out (Out (Some out)) old new r = by r.1 (record { plan = refl; base = refl })
   hands_out other old new r = absurd r
 
-  asks : (vertex : ℕ) (wanted : Wanted) (reply : Reply) (old new : Keeping D) → Asks is_lawful state failures answers vertex wanted reply old new → SameBase old new
+  asks : (vertex : ℕ) (wanted : Wanted) (reply : Reply) (old new : Keeping D) → Asks view answers vertex wanted reply old new → SameBase old new
   asks vertex wanted (Answered m ys) old new r = by r.same (itself old)
   asks vertex wanted (Refused e b) old new r =
       ⊎_elim (λ foreign. by foreign.1.same (itself old))
       (λ other. ⊎_elim (λ memory. by memory.1.same (itself old)) (λ unpassed. by unpassed.2.same (itself old)) other) r.1
   asks vertex wanted other old new r = absurd r
 
-  writes : (reply : Reply) (old new : Keeping D) → Writes is_lawful state failures answers reply old new → SameBase old new
+  writes : (reply : Reply) (old new : Keeping D) → Writes view answers reply old new → SameBase old new
   writes (Written w) old new r = ⊎_elim (λ none. by none.2 (itself old)) (λ some. by some.1 (record { plan = refl; base = refl })) r.cut
   writes (Refused e b) old new r =
       ⊎_elim (λ many. by many.1 (record { plan = refl; base = refl }))
       (λ other. ⊎_elim (λ device. by device.1 (record { plan = refl; base = refl })) (λ same. by same (itself old)) other) r.unchanged
   writes other old new r = absurd r
 
-  closes : (most : ℕ) (reply : Reply) (old new : Keeping D) → ClosesFree is_lawful state failures answers most reply old new → SameBase old new
+  closes : (most : ℕ) (reply : Reply) (old new : Keeping D) → ClosesFree view answers most reply old new → SameBase old new
   closes most Closed old new r = by r.same (record { plan = refl; base = refl })
   closes most (Refused e b) old new r = ⊎_elim (λ same. by same (itself old)) (λ device. by device.1 (record { plan = refl; base = refl })) r.unchanged
   closes most other old new r = absurd r
 
   -- a cut is never taken before the base of the hall, which is the keeper's
-  cuts : EachIsSound answers → (most : Option ℕ) (reply : Reply) (old new : Keeping D) → Cuts is_lawful state failures answers most reply old new → Rises old new
+  cuts : EachIsSound answers → (most : Option ℕ) (reply : Reply) (old new : Keeping D) → Cuts view answers most reply old new → Rises old new
   cuts sound most (CutTaken n) old new r = record {
     plan = ap (λ (k : Keeping D). k.plan) r.cut;
     base =
@@ -137,46 +137,46 @@ module _ {D : Type 0} (is_lawful : D → Type 0) (state : D → DiskState) (fail
   -- WHAT COMMANDS DO, of a lawful disk: time goes on, the base rises, and no image that they add keeps anything beyond it
   pub record KeepsOn (old new : Keeping D) : Type 0 where
     plan : new.plan ≡ old.plan
-    lawful : is_lawful new.device
-    later : (state old.device).moment ≤ (state new.device).moment
+    lawful : (view new.device).lawful
+    later : (view old.device).state.moment ≤ (view new.device).state.moment
     pub base : old.base ≤ new.base
-    pub since : KeepsSince old.plan new.base (state old.device) (state new.device)
+    pub since : KeepsSince old.plan new.base (view old.device).state (view new.device).state
 
   -- one that does not write
-  resting : (old new : Keeping D) → Rests old new → Rises old new → is_lawful old.device → KeepsOn old new
+  resting : (old new : Keeping D) → Rests old new → Rises old new → (view old.device).lawful → KeepsOn old new
   resting old new rests rise lawful = record {
     plan = rise.plan;
-    lawful = subst is_lawful (sym rests.device) lawful;
-    later = subst (λ (d : D). (state old.device).moment ≤ (state d).moment) (sym rests.device) (omega arith);
+    lawful = subst (λ (d : D). (view d).lawful) (sym rests.device) lawful;
+    later = subst (λ (d : D). (view old.device).state.moment ≤ (view d).state.moment) (sym rests.device) (omega arith);
     base = rise.base;
-    since = λ t c le left. inl (subst (λ (d : D). (state d).since t c) rests.device left);
+    since = λ t c le left. inl (subst (λ (d : D). (view d).state.since t c) rests.device left);
   }
 
   -- and one that may
-  writing : (reply : Reply) (old new : Keeping D) (x : List AnySubmitted) → MayWrite is_lawful state failures answers reply old new x → SameBase old new → is_lawful old.device → KeepsOn old new
+  writing : (reply : Reply) (old new : Keeping D) (x : List AnySubmitted) → MayWrite view answers reply old new x → SameBase old new → (view old.device).lawful → KeepsOn old new
   writing reply old new x may same lawful =
       let on = may.advances lawful in record {
         plan = same.plan;
         lawful = on.lawful;
         later = on.later;
         base = omega (arith, same.base);
-        since = further old.plan old.base new.base (state old.device) (state new.device) (omega (arith, same.base)) (may.short lawful);
+        since = further old.plan old.base new.base (view old.device).state (view new.device).state (omega (arith, same.base)) (may.short lawful);
       }
 
-  one : EachIsSound answers → (command : Command) (reply : Reply) (old new : Keeping D) → Obeys is_lawful state failures answers command reply old new → is_lawful old.device → KeepsOn old new
+  one : EachIsSound answers → (command : Command) (reply : Reply) (old new : Keeping D) → Obeys view answers command reply old new → (view old.device).lawful → KeepsOn old new
   one sound (Submit batch) reply old new obeys lawful = writing reply old new _ obeys.1 (submits batch reply old new obeys.0) lawful
   one sound (SubmitAs request batch) reply old new obeys lawful = writing reply old new _ obeys.1 (submits_as request batch reply old new obeys.0) lawful
   one sound (SubmitAll group) reply old new obeys lawful = writing reply old new _ obeys.1 (submits_all group reply old new obeys.0) lawful
   one sound WriteCut reply old new obeys lawful = writing reply old new _ obeys.1 (writes reply old new obeys.0) lawful
   one sound (CloseFree most) reply old new obeys lawful = writing reply old new _ obeys.1 (closes most reply old new obeys.0) lawful
-  one sound Release reply old new obeys lawful = resting old new (rests is_lawful state failures answers Release reply old new refl obeys) (rises (releases reply old new obeys)) lawful
-  one sound Settle reply old new obeys lawful = resting old new (rests is_lawful state failures answers Settle reply old new refl obeys) (rises (settles reply old new obeys)) lawful
-  one sound Collect reply old new obeys lawful = resting old new (rests is_lawful state failures answers Collect reply old new refl obeys) (rises (collects reply old new obeys)) lawful
-  one sound NextOut reply old new obeys lawful = resting old new (rests is_lawful state failures answers NextOut reply old new refl obeys) (rises (hands_out reply old new obeys)) lawful
-  one sound Cut reply old new obeys lawful = resting old new (rests is_lawful state failures answers Cut reply old new refl obeys) (cuts sound None reply old new obeys) lawful
-  one sound (CutUpTo e) reply old new obeys lawful = resting old new (rests is_lawful state failures answers (CutUpTo e) reply old new refl obeys) (cuts sound (Some e) reply old new obeys) lawful
+  one sound Release reply old new obeys lawful = resting old new (rests view answers Release reply old new refl obeys) (rises (releases reply old new obeys)) lawful
+  one sound Settle reply old new obeys lawful = resting old new (rests view answers Settle reply old new refl obeys) (rises (settles reply old new obeys)) lawful
+  one sound Collect reply old new obeys lawful = resting old new (rests view answers Collect reply old new refl obeys) (rises (collects reply old new obeys)) lawful
+  one sound NextOut reply old new obeys lawful = resting old new (rests view answers NextOut reply old new refl obeys) (rises (hands_out reply old new obeys)) lawful
+  one sound Cut reply old new obeys lawful = resting old new (rests view answers Cut reply old new refl obeys) (cuts sound None reply old new obeys) lawful
+  one sound (CutUpTo e) reply old new obeys lawful = resting old new (rests view answers (CutUpTo e) reply old new refl obeys) (cuts sound (Some e) reply old new obeys) lawful
   one sound (Answer vertex wanted) reply old new obeys lawful =
-      resting old new (rests is_lawful state failures answers (Answer vertex wanted) reply old new refl obeys) (rises (asks vertex wanted reply old new obeys)) lawful
+      resting old new (rests view answers (Answer vertex wanted) reply old new refl obeys) (rises (asks vertex wanted reply old new obeys)) lawful
 
   -- one command, and then others
   on_from : (old mid new : Keeping D) → KeepsOn old mid → KeepsOn mid new → KeepsOn old new
@@ -186,13 +186,13 @@ module _ {D : Type 0} (is_lawful : D → Type 0) (state : D → DiskState) (fail
     later = omega (arith, first.later, rest.later);
     base = omega (arith, first.base, rest.base);
     since = λ t c le left. ⊎_elim
-        (λ was. further old.plan mid.base new.base (state old.device) (state mid.device) rest.base first.since t c le was)
+        (λ was. further old.plan mid.base new.base (view old.device).state (view mid.device).state rest.base first.since t c le was)
         (λ kept. inr (subst (λ (p : List Line). ImageKeepsTo p new.base c) first.plan kept))
         (rest.since t c (omega (arith, le, first.later)) left);
   }
 
   -- COMMANDS, one after another
-  pub driven_keeps_on : EachIsSound answers → (commands : List Command) (replies : List Reply) (old new : Keeping D) → is_lawful old.device → Driven is_lawful state failures answers commands replies old new
+  pub driven_keeps_on : EachIsSound answers → (commands : List Command) (replies : List Reply) (old new : Keeping D) → (view old.device).lawful → Driven view answers commands replies old new
       → KeepsOn old new
   driven_keeps_on sound [] [] old new lawful is =
       subst (λ (k : Keeping D). KeepsOn old k) (sym is) (resting old old (record { device = refl; plan = refl; standing = refl; broken = refl }) (rises (itself old)) lawful)

@@ -5,16 +5,16 @@ use Rattle.td_plan.specs.Lines.{Line}
 use Rattle.td_plan.specs.Tree.{Nodes, tree_of}
 use Rattle.td_calls.specs.Answers.{Answers}
 use Rattle.td_batch.specs.Meaning.{run}
-use Rattle.td_disk.specs.Disk.{DiskState}
+use Rattle.td_disk.specs.Disk.{DiskView, DiskState}
 use Rattle.td_gate.specs.CrashSafe.{CrashSafe, Unchanged}
 use Rattle.td_head.specs.declared.head.Head.{Head}
 use Rattle.td_journal.specs.declared.submitted.Submitted.{Submitted}
-use Rattle.td_standing.specs.declared.error.KeeperError.{KeeperError}
-use Rattle.td_standing.specs.Standing.{Standing, last_epoch, with_more}
-use Rattle.td_standing.specs.Stops.{Advance, Holds}
-use Rattle.td_standing.specs.Told.{Told}
-use Rattle.td_standing.specs.Tells.{Tells, Keeps, TellsSince}
-use Rattle.td_standing.specs.Advanced.{TellsAdvance, SinceAdvance, AdvancesSince, HeldWhere, states_by}
+use Rattle.td_store.specs.declared.standing.error.KeeperError.{KeeperError}
+use Rattle.td_store.specs.standing.Standing.{Standing, last_epoch, with_more}
+use Rattle.td_store.specs.standing.Stops.{Advance, Holds}
+use Rattle.td_store.specs.standing.Told.{Told}
+use Rattle.td_store.specs.standing.Tells.{Tells, Keeps, TellsSince}
+use Rattle.td_store.specs.standing.Advanced.{TellsAdvance, SinceAdvance, AdvancesSince, HeldWhere, states_by}
 use Rattle.td_keeper.specs.Keeping.{Keeping, EachKeepsTo, KeepsSince, KeepsToWhere}
 use Rattle.td_keeper.proofs.Submitting.{keeps_of}
 
@@ -70,16 +70,16 @@ pub held : (answers : Answers) (plan : List Line) (head : Head) (side : ℕ) (s 
 held answers plan head side s x moment state counts since c image = (x, since c (counts c image))
 
 -- of a keeper: in each image since the start of a call, by what is known of those since an earlier moment
-pub by_further : {D : Type 0} (is_lawful : D → Type 0) (state : D → DiskState) → ((d : D) (c : List ℕ) → is_lawful d → (state d).since (state d).moment c → (state d).images c)
-    → (answers : Answers) → Together → NotYet answers → {k z : Keeping D} → k ≡ z → (is_lawful k.device → HeldWhere k.broken answers k.plan k.head k.side k.standing (state k.device))
-    → (x : List Submitted) (new : DiskState) → is_lawful z.device → z.broken ≡ false
-    → AdvancesSince answers z.plan z.standing x (last_epoch z.standing) (state z.device) new
-    → SinceAdvance answers z.plan z.standing x (last_epoch z.standing) (state z.device).moment new
-by_further {D = D} is_lawful state only answers together not_yet {k = k} {z = z} is held x new =
-    subst (λ (v : Keeping D). is_lawful v.device → v.broken ≡ false → AdvancesSince answers v.plan v.standing x (last_epoch v.standing) (state v.device) new → SinceAdvance answers v.plan v.standing x (last_epoch v.standing) (state v.device).moment new) is
+pub by_further : {D : Type 0} (view : D → DiskView) → ((d : D) (c : List ℕ) → (view d).lawful → (view d).state.since (view d).state.moment c → (view d).state.images c)
+    → (answers : Answers) → Together → NotYet answers → {k z : Keeping D} → k ≡ z → ((view k.device).lawful → HeldWhere k.broken answers k.plan k.head k.side k.standing (view k.device).state)
+    → (x : List Submitted) (new : DiskState) → (view z.device).lawful → z.broken ≡ false
+    → AdvancesSince answers z.plan z.standing x (last_epoch z.standing) (view z.device).state new
+    → SinceAdvance answers z.plan z.standing x (last_epoch z.standing) (view z.device).state.moment new
+by_further {D = D} view only answers together not_yet {k = k} {z = z} is held x new =
+    subst (λ (v : Keeping D). (view v.device).lawful → v.broken ≡ false → AdvancesSince answers v.plan v.standing x (last_epoch v.standing) (view v.device).state new → SinceAdvance answers v.plan v.standing x (last_epoch v.standing) (view v.device).state.moment new) is
     (λ old whole further.
-    let keeps = keeps_of k.broken answers k.plan k.head k.side k.standing (state k.device) whole (held old) in
-    from_start answers k.plan together k.head k.side k.standing x (state k.device) new (λ c. only k.device c old) (not_yet (tree_of k.plan) k.standing x) keeps further)
+    let keeps = keeps_of k.broken answers k.plan k.head k.side k.standing (view k.device).state whole (held old) in
+    from_start answers k.plan together k.head k.side k.standing x (view k.device).state new (λ c. only k.device c old) (not_yet (tree_of k.plan) k.standing x) keeps further)
 
 -- the standing, or another, perhaps under another head and in another slot
 pub either_told : (plan : List Line) → Together → (head next : Head) (side other : ℕ) (s t : Standing) (old new : DiskState) → ((c : List ℕ) → old.since old.moment c → old.images c)

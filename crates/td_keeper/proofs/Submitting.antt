@@ -17,11 +17,11 @@ use Rattle.td_journal.specs.Cell.{is_batch}
 use Rattle.td_journal.specs.declared.journal.Journal.{Journal}
 use Rattle.td_journal.specs.declared.submitted.Submitted.{Submitted}
 use Rattle.td_machine.specs.Steps.{accepts}
-use Rattle.td_group.specs.Groups.{AllFew, AreBatches, AreFresh, AreFree, AreShut, HasRoomFor}
-use Rattle.td_standing.specs.Standing.{Standing, last_epoch, last_request, with_more}
-use Rattle.td_standing.specs.Told.{inputs_of, ring_of}
-use Rattle.td_standing.specs.Tells.{Keeps, IsFresh}
-use Rattle.td_standing.specs.Advanced.{HeldWhere}
+use Rattle.td_store.specs.group.Groups.{AllFew, AreBatches, AreFresh, AreFree, AreShut, HasRoomFor}
+use Rattle.td_store.specs.standing.Standing.{Standing, last_epoch, last_request, with_more}
+use Rattle.td_store.specs.standing.Told.{inputs_of, ring_of}
+use Rattle.td_store.specs.standing.Tells.{Keeps, IsFresh}
+use Rattle.td_store.specs.standing.Advanced.{HeldWhere}
 use Rattle.td_watch.specs.View.{View}
 use Rattle.td_keeper.specs.Keeping.{Keeping, IsKeeping, FreeAreShut, words_at, IsBelow}
 use Rattle.td_keeper.specs.Refused.{is_new}

@@ -6,10 +6,10 @@ use Rattle.td_plan.specs.Tree.{tree_of}
 use Rattle.td_calls.specs.Answers.{Answers}
 use Rattle.td_batch.specs.Meaning.{run, numbered}
 use Rattle.td_journal.specs.declared.submitted.Submitted.{Submitted as AnySubmitted}
-use Rattle.td_standing.specs.Standing.{Standing, last_epoch, batches_of, submission}
-use Rattle.td_standing.specs.Stops.{Begins, Stands}
-use Rattle.td_standing.specs.Told.{Told}
-use Rattle.td_standing.specs.Advanced.{states_by}
+use Rattle.td_store.specs.standing.Standing.{Standing, last_epoch, batches_of, submission}
+use Rattle.td_store.specs.standing.Stops.{Begins, Stands}
+use Rattle.td_store.specs.standing.Told.{Told}
+use Rattle.td_store.specs.standing.Advanced.{states_by}
 use Rattle.td_keeper.specs.declared.receipt.Receipt.TheVariants.{New}
 use Rattle.td_keeper.specs.declared.command.Command.{Command}
 use Rattle.td_keeper.specs.declared.command.Command.TheVariants.{Submit, SubmitAs, SubmitAll}

@@ -4,8 +4,8 @@ use Rattle.td_plan.specs.Lines.{Line}
 use Rattle.td_calls.specs.Answers.{Answers}
 use Rattle.td_questions.specs.Asked.{answer_to}
 use Rattle.td_journal.specs.declared.submitted.Submitted.{Submitted as AnySubmitted}
-use Rattle.td_standing.specs.Standing.{batches_of}
-use Rattle.td_standing.specs.Advanced.{states_by}
+use Rattle.td_store.specs.standing.Standing.{batches_of}
+use Rattle.td_store.specs.standing.Advanced.{states_by}
 use Rattle.td_keeper.specs.declared.command.Command.{Command}
 use Rattle.td_keeper.specs.declared.command.Command.TheVariants.{Answer}
 use Rattle.td_keeper.specs.declared.command.Reply.{Reply}

@@ -1,14 +1,14 @@
--- What a call of a keeper comes to: its device, what a crash leaves of the disk, and its refusals.
-use Rattle.std.specs.Prelude.{◌≡◌, ◌⊎◌, ◌↔◌, ℕ, ◌+◌, ◌≤◌, true, false, List, [], Option, Some, None, Result, Ok, Err}
+-- What a call of a keeper comes to: what a crash leaves of the disk, and its refusals.
+use Rattle.std.specs.Prelude.{◌≡◌, ◌⊎◌, ℕ, ◌+◌, ◌≤◌, true, false, List, [], Option, Some, None, Result, Ok, Err}
 use Rattle.td_stamp.specs.declared.values.Entry.{Entry}
 use Rattle.td_calls.specs.Answers.{Answers}
-use Rattle.td_disk.specs.Disk.{DiskState, CountsDevice}
+use Rattle.td_disk.specs.Disk.{DiskView, DiskState}
 use Rattle.td_gate.specs.CrashSafe.{CrashSafe, Unchanged}
 use Rattle.td_journal.specs.declared.submitted.Submitted.{Submitted}
-use Rattle.td_standing.specs.declared.error.KeeperError.{KeeperError}
-use Rattle.td_standing.specs.declared.error.KeeperError.TheVariants.{Memory, Device, TooManyKeys}
-use Rattle.td_standing.specs.Standing.{last_epoch}
-use Rattle.td_standing.specs.Advanced.{SinceAdvance, AdvancesSince}
+use Rattle.td_store.specs.declared.standing.error.KeeperError.{KeeperError}
+use Rattle.td_store.specs.declared.standing.error.KeeperError.TheVariants.{Memory, Device, TooManyKeys}
+use Rattle.td_store.specs.standing.Standing.{last_epoch}
+use Rattle.td_store.specs.standing.Advanced.{SinceAdvance, AdvancesSince}
 use Rattle.td_keeper.specs.declared.receipt.Receipt.{Receipt}
 use Rattle.td_keeper.specs.Keeping.{Keeping, KeepsSince, FreeAreShut, with_batch, with_group, with_checkpoint}
 use Rattle.td_keeper.specs.Refused.{submit_refusal, submit_as_refusal, group_refusal, write_refusal, close_refusal}
@@ -23,12 +23,6 @@ outcome (Err refused) = Err refused.0
 abbrev pub disk_in : {D E : Type 0} → Result (Keeping D) (E × D) → D
 disk_in (Ok keeper) = keeper.device
 disk_in (Err refused) = refused.1
-
--- THE DEVICE IS KEPT: it is as large as it was, and as lawful; and it is told to have failed exactly where it did
-pub record KeepsDevice {D T E : Type 0} (capacity : D → ℕ) (is_lawful : D → Type 0) (failures : D → ℕ) (device : E) (result : Result T E) (old new : D) : Type 0 where
-  pub size : capacity new ≡ capacity old
-  pub lawful : is_lawful old ↔ is_lawful new
-  pub counts : CountsDevice result device (failures old) (failures new)
 
 -- WHAT A CRASH LEAVES of a call that submits these, of the disk before and after it
 pub record CrashLeaves {D : Type 0} (answers : Answers) (x : List Submitted) (k : Keeping D) (before after : DiskState) : Type 0 where
@@ -60,20 +54,21 @@ pub record IsAllSubmitted {D : Type 0} (group : List Submitted) (first end : ℕ
   pub end_is : end ≡ last_epoch new.standing + 1
 
 -- A SUBMIT IS REFUSED, with this error, where these are the errors of memory and of the device
-pub record IsRefused {D E : Type 0} (is_lawful : D → Type 0) (state : D → DiskState) (answers : Answers) (memory device : E) (refusal : Option E) (error : E) (old new : Keeping D) : Type 0 where
+pub record IsRefused {D E : Type 0} (view : D → DiskView) (answers : Answers) (memory device : E) (refusal : Option E) (error : E) (old new : Keeping D) : Type 0 where
   -- by the first cause that holds; where none does, for want of memory, or by the device
   pub cause : (refusal ≡ Some error) ⊎ ((refusal ≡ None) × ((error ≡ memory) ⊎ (error ≡ device)))
-  -- the keeper is as it was; but where the device failed, it is broken
+  -- the keeper is as it was, but for its device where memory ran out; where the device failed, it is broken
   pub unchanged : (new ≡ old) ⊎ ((error ≡ memory) × (new ≡ record old { device = new.device })) ⊎ ((error ≡ device) × (new ≡ record old { device = new.device; broken = true }))
   pub broken : error ≡ device → new.broken ≡ true
   -- for want of memory nothing was written
-  pub unwritten : error ≡ memory → is_lawful old.device → CrashSafe Unchanged (state old.device) (state new.device)
+  pub unwritten : error ≡ memory → (view old.device).lawful → CrashSafe Unchanged (view old.device).state (view new.device).state
   -- after any refusal but the device's a crash leaves an advance of the standing without what was refused
-  pub nothing : (error ≡ device) ⊎ (is_lawful old.device → old.broken ≡ false
-      → AdvancesSince answers old.plan old.standing [] (last_epoch old.standing) (state old.device) (state new.device))
+  pub nothing : (error ≡ device) ⊎ ((view old.device).lawful → old.broken ≡ false
+      → AdvancesSince answers old.plan old.standing [] (last_epoch old.standing) (view old.device).state (view new.device).state)
 
 module _ {D : Type 0} (error : KeeperError) (old new : Keeping D) where
-  -- A CUT IS NOT WRITTEN: by the first cause that holds; where none does, for want of memory, or by the device
+  -- A CUT IS NOT WRITTEN: by the first cause that holds; where none does, for want of memory, or by the device. Where it is not the device, nothing
+  -- was written, since the disk is as it was
   pub record IsUnwritten : Type 0 where
     pub cause : (write_refusal old ≡ Some error) ⊎ ((write_refusal old ≡ None) × ((error ≡ Memory) ⊎ (error ≡ Device)))
     -- one of too many states waits no more
@@ -93,7 +88,7 @@ pub record IsWritten {D : Type 0} (written : Option ℕ) (old new : Keeping D) :
   pub cut : ((written ≡ None) × (old.waiting ≡ false) × (new ≡ old)) ⊎ ((written ≡ Some old.base) × (new ≡ with_checkpoint old new.device))
 
 -- CELLS ARE CLOSED that no epoch uses, so many of those that come next, and nothing else changed
-pub record IsClosed {D : Type 0} (is_lawful : D → Type 0) (state : D → DiskState) (most : ℕ) (old new : Keeping D) : Type 0 where
+pub record IsClosed {D : Type 0} (view : D → DiskView) (most : ℕ) (old new : Keeping D) : Type 0 where
   pub accepted : close_refusal old ≡ None
   pub same : new ≡ record old { device = new.device }
-  pub closed : is_lawful old.device → FreeAreShut old most (state new.device).bytes
+  pub closed : (view old.device).lawful → FreeAreShut old most (view new.device).state.bytes

@@ -12,15 +12,15 @@ use Rattle.td_machine.specs.Active.{unpassed}
 use Rattle.td_machine.specs.Steps.{collect_step}
 use Rattle.td_machine.specs.Reached.{IsReached}
 use Rattle.td_machine.specs.Sound.{outs_by}
-use Rattle.td_disk.specs.Disk.{DiskState, Rises}
+use Rattle.td_disk.specs.Disk.{DiskView, DiskState, Rises}
 use Rattle.td_gate.specs.CrashSafe.{CrashSafe, Unchanged}
 use Rattle.td_questions.specs.declared.question.Wanted.{Wanted}
 use Rattle.td_questions.specs.Asked.{answer_to}
-use Rattle.td_standing.specs.declared.error.KeeperError.{KeeperError}
-use Rattle.td_standing.specs.declared.error.KeeperError.TheVariants.{Foreign, NotPassed, TooManyKeys, Broken, Device, Memory, OldVersion}
+use Rattle.td_store.specs.declared.standing.error.KeeperError.{KeeperError}
+use Rattle.td_store.specs.declared.standing.error.KeeperError.TheVariants.{Foreign, NotPassed, TooManyKeys, Broken, Device, Memory, OldVersion}
 use Rattle.td_journal.specs.declared.submitted.Submitted.{Submitted as AnySubmitted}
-use Rattle.td_standing.specs.Standing.{last_epoch, batches_of, submission}
-use Rattle.td_standing.specs.Advanced.{AdvancesSince, SinceAdvance}
+use Rattle.td_store.specs.standing.Standing.{last_epoch, batches_of, submission}
+use Rattle.td_store.specs.standing.Advanced.{AdvancesSince, SinceAdvance}
 use Rattle.td_keeper.specs.declared.receipt.Receipt.TheVariants.{New}
 use Rattle.td_keeper.specs.declared.command.Command.{Command}
 use Rattle.td_keeper.specs.declared.command.Command.TheVariants.{Submit, SubmitAs, SubmitAll, Release, Settle, Collect, NextOut, Cut, CutUpTo, Answer, WriteCut, CloseFree}
@@ -132,30 +132,30 @@ pub record HandsOn {D : Type 0} (answers : Answers) (old new : Keeping D) (x : L
   pub within : new.collected ≤ last_epoch old.standing + length x
   pub outs : handed ++ new.queue ≡ old.queue ++ outs_beyond old answers x new.collected
 
-module _ {D : Type 0} (is_lawful : D → Type 0) (state : D → DiskState) (failures : D → ℕ) (answers : Answers) where
+module _ {D : Type 0} (view : D → DiskView) (answers : Answers) where
   -- time goes on, and each image since a moment up to the start was one by then, or the disk tells an advance in it of the
   -- standing with what was submitted, which holds every epoch of the standing
   pub record Advances (old new : Keeping D) (x : List AnySubmitted) : Type 0 where
-    pub lawful : is_lawful new.device
-    pub later : (state old.device).moment ≤ (state new.device).moment
-    pub since : old.broken ≡ false → AdvancesSince answers old.plan old.standing x (last_epoch old.standing) (state old.device) (state new.device)
+    pub lawful : (view new.device).lawful
+    pub later : (view old.device).state.moment ≤ (view new.device).state.moment
+    pub since : old.broken ≡ false → AdvancesSince answers old.plan old.standing x (last_epoch old.standing) (view old.device).state (view new.device).state
 
   -- A COMMAND THAT MAY WRITE, with this reply: the count of failures never falls, and stays where the device did not fail; and so
   -- the images, where the disk is lawful; and nothing is kept beyond the base
   pub record MayWrite (reply : Reply) (old new : Keeping D) (x : List AnySubmitted) : Type 0 where
-    pub counted : failures old.device ≤ failures new.device
-    pub stays : is_failed reply ≡ false → failures new.device ≡ failures old.device
-    pub advances : is_lawful old.device → Advances old new x
-    pub short : is_lawful old.device → KeepsSince old.plan old.base (state old.device) (state new.device)
+    pub counted : (view old.device).failures ≤ (view new.device).failures
+    pub stays : is_failed reply ≡ false → (view new.device).failures ≡ (view old.device).failures
+    pub advances : (view old.device).lawful → Advances old new x
+    pub short : (view old.device).lawful → KeepsSince old.plan old.base (view old.device).state (view new.device).state
 
   -- nothing was written: what a crash may leave, it might have left before
   abbrev pub Unwritten : Keeping D → Keeping D → Type 0
-  Unwritten old new = is_lawful old.device → CrashSafe Unchanged (state old.device) (state new.device)
+  Unwritten old new = (view old.device).lawful → CrashSafe Unchanged (view old.device).state (view new.device).state
 
   -- THE DEVICE FAILED: the keeper is broken, and the count of failures rose
   pub record Fails (old new : Keeping D) : Type 0 where
     pub broken : new.broken ≡ true
-    pub risen : Rises (failures old.device) (failures new.device)
+    pub risen : Rises (view old.device).failures (view new.device).failures
 
   -- TO SUBMIT: the batch is acknowledged (`IsSubmitted`); or it comes back, by the first cause of these or for want of memory or of the device,
   -- and what was kept in memory is as it was
@@ -189,7 +189,7 @@ module _ {D : Type 0} (is_lawful : D → Type 0) (state : D → DiskState) (fail
     pub unchanged : (new ≡ old) ⊎ ((error ≡ Keeper Memory) × (new ≡ record old { device = new.device })) ⊎ ((error ≡ Keeper Device) × (new ≡ record old { device = new.device; broken = true }))
     pub memory : error ≡ Keeper Memory → Unwritten old new
     pub device : error ≡ Keeper Device → Fails old new
-    pub images : is_lawful old.device → old.broken ≡ false → AllOrNone old.plan old.standing group (state old.device).moment (state new.device)
+    pub images : (view old.device).lawful → old.broken ≡ false → AllOrNone old.plan old.standing group (view old.device).state.moment (view new.device).state
 
   abbrev pub SubmitsAll : List AnySubmitted → Reply → Keeping D → Keeping D → Type 0
   SubmitsAll group (SubmittedAll first end) old new = IsAllSubmitted group first end old new
@@ -301,7 +301,7 @@ module _ {D : Type 0} (is_lawful : D → Type 0) (state : D → DiskState) (fail
     pub device : error ≡ Device → Fails old new
 
   abbrev pub ClosesFree : ℕ → Reply → Keeping D → Keeping D → Type 0
-  ClosesFree most Closed old new = IsClosed is_lawful state most old new
+  ClosesFree most Closed old new = IsClosed view most old new
   ClosesFree most (Refused error back) old new = IsNotClosed error back old new
   ClosesFree most _ old new = ⊥
 
@@ -333,15 +333,15 @@ module _ {D : Type 0} (is_lawful : D → Type 0) (state : D → DiskState) (fail
     -- the device failed in one of them exactly where a reply says so: then the keeper is broken, and the count of failures rose; else the
     -- keeper is as whole as it was, and the count stays
     pub fails : some_failed replies ≡ true → Fails old new
-    pub whole : some_failed replies ≡ false → (new.broken ≡ old.broken) × (failures new.device ≡ failures old.device)
+    pub whole : some_failed replies ≡ false → (new.broken ≡ old.broken) × ((view new.device).failures ≡ (view old.device).failures)
     -- the outputs handed out, followed by the queue left, are the queue found, followed by those that the batch meaning has of the epochs
     -- collected since, each once
     pub outputs : HandsOn answers old new (submitted_by commands replies) (handed_out replies)
     -- in each image since the start, and since an earlier moment, the disk tells an advance of the standing with all that was submitted, which
     -- holds every epoch of the standing
-    pub images : is_lawful old.device → old.broken ≡ false
-        → SinceAdvance answers old.plan old.standing (submitted_by commands replies) (last_epoch old.standing) (state old.device).moment (state new.device)
-    pub further : is_lawful old.device → old.broken ≡ false → Advances old new (submitted_by commands replies)
+    pub images : (view old.device).lawful → old.broken ≡ false
+        → SinceAdvance answers old.plan old.standing (submitted_by commands replies) (last_epoch old.standing) (view old.device).state.moment (view new.device).state
+    pub further : (view old.device).lawful → old.broken ≡ false → Advances old new (submitted_by commands replies)
 
   -- ONE COMMAND AND ITS REPLY, of a keeper whose memory is right. The device failed in it exactly where the reply says so. In each image
   -- since its start, and since an earlier moment, the disk tells an advance of the standing with what it submitted
@@ -349,12 +349,12 @@ module _ {D : Type 0} (is_lawful : D → Type 0) (state : D → DiskState) (fail
     pub kept : IsKeeping old answers
     pub obeyed : Obeys command reply old new
     pub driven : Driven (command ∷ []) (reply ∷ []) old new
-    pub counted : failures old.device ≤ failures new.device
+    pub counted : (view old.device).failures ≤ (view new.device).failures
     pub fails : is_failed reply ≡ true → Fails old new
-    pub whole : is_failed reply ≡ false → (new.broken ≡ old.broken) × (failures new.device ≡ failures old.device)
-    pub further : is_lawful old.device → old.broken ≡ false → Advances old new (submitted_in command reply)
-    pub images : is_lawful old.device → old.broken ≡ false
-        → SinceAdvance answers old.plan old.standing (submitted_in command reply) (last_epoch old.standing) (state old.device).moment (state new.device)
+    pub whole : is_failed reply ≡ false → (new.broken ≡ old.broken) × ((view new.device).failures ≡ (view old.device).failures)
+    pub further : (view old.device).lawful → old.broken ≡ false → Advances old new (submitted_in command reply)
+    pub images : (view old.device).lawful → old.broken ≡ false
+        → SinceAdvance answers old.plan old.standing (submitted_in command reply) (last_epoch old.standing) (view old.device).state.moment (view new.device).state
 
 -- WHAT COMES OF A HALL OF ITS OWN at a command, by its reply: a release leaves it with all batches since the base; to settle keeps these and
 -- lets each epoch pass; and of a hall that was done all is collected, and is cut

@@ -10,7 +10,7 @@ use Rattle.td_machine.specs.State.{HallState}
 use Rattle.td_machine.specs.Active.{unpassed, has_passed}
 use Rattle.td_machine.specs.Steps.{release_step, collect_step, cut_at_by}
 use Rattle.td_machine.specs.Sound.{outs_by}
-use Rattle.td_standing.specs.Standing.{last_epoch, batches_of}
+use Rattle.td_store.specs.standing.Standing.{last_epoch, batches_of}
 use Rattle.td_keeper.specs.Keeping.{Keeping, since_base, words_at, published}
 
 -- some batches are a beginning of others

@@ -13,12 +13,12 @@ use Rattle.td_slots.specs.Slot.{are_states}
 use Rattle.td_slots.specs.declared.slots.Checkpoint.{Checkpoint}
 use Rattle.td_journal.specs.Cell.{is_batch}
 use Rattle.td_journal.specs.declared.submitted.Submitted.{Submitted}
-use Rattle.td_group.specs.Groups.{AreShut}
+use Rattle.td_store.specs.group.Groups.{AreShut}
 use Rattle.td_watch.specs.View.{View, view_of}
 use Rattle.td_watch.specs.Words.{IsAtMost}
-use Rattle.td_standing.specs.Standing.{Standing, standing_from, last_epoch, batches_of, submission, with_more, cut_at}
-use Rattle.td_standing.specs.Told.{Told, inputs_of, folds_of, ring_of}
-use Rattle.td_standing.specs.Tells.{side_after}
+use Rattle.td_store.specs.standing.Standing.{Standing, standing_from, last_epoch, batches_of, submission, with_more, cut_at}
+use Rattle.td_store.specs.standing.Told.{Told, inputs_of, folds_of, ring_of}
+use Rattle.td_store.specs.standing.Tells.{side_after}
 use Rattle.td_keeper.specs.declared.keeper.Taken.{Taken}
 
 -- A KEEPER: its disk, the plan, the disk's head, the slot in which its checkpoint stands, and what it stands for; whether the

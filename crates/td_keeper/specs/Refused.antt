@@ -7,13 +7,13 @@ use Rattle.td_machine.specs.Active.{unpassed}
 use Rattle.td_machine.specs.Steps.{accepts}
 use Rattle.td_slots.specs.declared.error.SlotsError.{SlotsError}
 use Rattle.td_slots.specs.declared.error.SlotsError.TheVariants.{Memory as OutOfMemory}
-use Rattle.td_standing.specs.declared.error.KeeperError.{KeeperError}
-use Rattle.td_standing.specs.declared.error.KeeperError.TheVariants.{Broken, NoSuchInput, TooManyRecords, Epochs, Full, NotPassed, CutWaiting, TooManyKeys, OldVersion, LastGeneration}
+use Rattle.td_store.specs.declared.standing.error.KeeperError.{KeeperError}
+use Rattle.td_store.specs.declared.standing.error.KeeperError.TheVariants.{Broken, NoSuchInput, TooManyRecords, Epochs, Full, NotPassed, CutWaiting, TooManyKeys, OldVersion, LastGeneration}
 use Rattle.td_plan.specs.Lines.{Line}
 use Rattle.td_journal.specs.Numbers.{may_come}
 use Rattle.td_journal.specs.declared.submitted.Submitted.{Submitted}
-use Rattle.td_group.specs.Groups.{may_follow}
-use Rattle.td_standing.specs.Standing.{Standing, last_epoch, last_request}
+use Rattle.td_store.specs.group.Groups.{may_follow}
+use Rattle.td_store.specs.standing.Standing.{Standing, last_epoch, last_request}
 use Rattle.td_keeper.specs.declared.group.GroupError.{GroupError}
 use Rattle.td_keeper.specs.declared.group.GroupError.TheVariants.{Repeated, Keeper}
 use Rattle.td_keeper.specs.Keeping.{Keeping}

@@ -2,9 +2,9 @@
 ghost use Rattle.std.specs.Prelude.{◌≡◌, ◌⊎◌, ℕ, IfOk, IfErr};
 ghost use Rattle.td_machine.specs.Reached.{IsReached};
 ghost use Rattle.td_questions.specs.Asked.{answer_to};
-ghost use Rattle.td_standing.specs.Standing.{last_epoch};
+ghost use Rattle.td_store.specs.standing.Standing.{last_epoch};
 ghost use Rattle.td_keeper.specs.Halls.{IsOwn, last_states, LacksLast};
-ghost use Rattle.td_standing.specs.declared.error.KeeperError.TheVariants.{Foreign, Memory, NotPassed};
+ghost use Rattle.td_store.specs.declared.standing.error.KeeperError.TheVariants.{Foreign, Memory, NotPassed};
 
 use crate::keeper::Keeper;
 use crate::laws::each_is_kept;
@@ -15,7 +15,7 @@ use td_disk::Disk;
 use td_pool::AnyHall;
 use td_pool::laws::each_is_sound;
 use td_questions::{Entries, Wanted, answer};
-use td_standing::KeeperError;
+use td_store::standing::KeeperError;
 
 impl<D: Disk, L: Law> Keeper<D, L> {
     /// The entries that answer what is wanted of a fold, of the states after the last epoch on the journal, and that epoch, from a hall that

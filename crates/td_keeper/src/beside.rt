@@ -11,7 +11,7 @@ use td_disk::Disk;
 use td_pool::laws::each_is_sound;
 use td_pool::{AnyHall, Crew, Pool};
 use td_questions::{Entries, Wanted};
-use td_standing::KeeperError;
+use td_store::standing::KeeperError;
 
 /// Each of these is done under one hold of the pool's lock. Between two of them the hall is any that workers may leave.
 impl<D: Disk, L: Law> Keeper<D, L> {
@@ -22,7 +22,7 @@ impl<D: Disk, L: Law> Keeper<D, L> {
         rt: &R,
         pool: &Pool<K, L>,
     ) -> Result<u64, KeeperError>
-        ensures { Releases D.is_lawful D.state D.failures L.answers (released result) self.now self.now }
+        ensures { Releases D.view L.answers (released result) self.now self.now }
     {
         let mut held = pool.hall(rt);
         let count = self.release_lent(&mut *held);
@@ -34,7 +34,7 @@ impl<D: Disk, L: Law> Keeper<D, L> {
     /// Waits, with the lock let go, until every epoch that was released into the pool's hall has passed. Refusal: `NotPassed` of
     /// the first that has not, where the pool was stopped before.
     pub fn settle_in<K: Crew, R: Wait>(&self, rt: &R, pool: &Pool<K, L>) -> Result<(), KeeperError>
-        ensures { Settles D.is_lawful D.state D.failures L.answers (settled result) self.now self.now }
+        ensures { Settles D.view L.answers (settled result) self.now self.now }
     {
         match unpassed_in(&*pool.settle(rt)) {
             None => Ok(()),
@@ -49,7 +49,7 @@ impl<D: Disk, L: Law> Keeper<D, L> {
         rt: &R,
         pool: &Pool<K, L>,
     ) -> Result<u64, KeeperError>
-        ensures { Collects D.is_lawful D.state D.failures L.answers (collected result) self.old self.new }
+        ensures { Collects D.view L.answers (collected result) self.old self.new }
     {
         self.collect_lent(&mut *pool.hall(rt))
     }
@@ -60,7 +60,7 @@ impl<D: Disk, L: Law> Keeper<D, L> {
         rt: &R,
         pool: &Pool<K, L>,
     ) -> Result<u64, KeeperError>
-        ensures { Cuts D.is_lawful D.state D.failures L.answers None (cut result) self.old self.new }
+        ensures { Cuts D.view L.answers None (cut result) self.old self.new }
     {
         self.cut_lent(&mut *pool.hall(rt), None)
     }
@@ -72,7 +72,7 @@ impl<D: Disk, L: Law> Keeper<D, L> {
         pool: &Pool<K, L>,
         epoch: u64,
     ) -> Result<u64, KeeperError>
-        ensures { Cuts D.is_lawful D.state D.failures L.answers (Some epoch) (cut result) self.old self.new }
+        ensures { Cuts D.view L.answers (Some epoch) (cut result) self.old self.new }
     {
         self.cut_lent(&mut *pool.hall(rt), Some(epoch))
     }
@@ -87,7 +87,7 @@ impl<D: Disk, L: Law> Keeper<D, L> {
         vertex: u8,
         wanted: Wanted,
     ) -> Result<(u64, Entries), KeeperError>
-        ensures { Asks D.is_lawful D.state D.failures L.answers vertex wanted (answered result) self.now self.now }
+        ensures { Asks D.view L.answers vertex wanted (answered result) self.now self.now }
     {
         self.answer_lent(&*pool.hall(rt), vertex, wanted)
     }

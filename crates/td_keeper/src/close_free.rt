@@ -2,14 +2,15 @@
 ghost use Rattle.std.specs.Prelude.{[], true, IfErr, OnOk};
 ghost use Rattle.td_gate.specs.CrashSafe.{CrashSafe, Unchanged};
 ghost use Rattle.td_keeper.specs.Keeping.{FreeAreShut};
-ghost use Rattle.td_standing.specs.declared.error.KeeperError.TheVariants.{Device};
-ghost use Rattle.td_keeper.specs.Calls.{IsClosed, IsUnclosed, CrashLeaves, KeepsDevice};
+ghost use Rattle.td_store.specs.declared.standing.error.KeeperError.TheVariants.{Device};
+ghost use Rattle.td_disk.specs.Calls.{KeepsDevice};
+ghost use Rattle.td_keeper.specs.Calls.{IsClosed, IsUnclosed, CrashLeaves};
 
 use crate::keeper::Keeper;
 use td_calls::Law;
 use td_disk::{Disk, Fault};
-use td_group::close_free;
-use td_standing::{KeeperError, laws, ring_of};
+use td_store::group::close_free;
+use td_store::standing::{KeeperError, laws, ring_of};
 
 impl<D: Disk, L: Law> Keeper<D, L> {
     /// Closes cells of the journal that no epoch uses, at most so many, those that come next, where one is open, with one sync for all; where
@@ -19,16 +20,16 @@ impl<D: Disk, L: Law> Keeper<D, L> {
     /// Refusals: `Broken`, where the device failed in an earlier call that writes, and nothing is done; then `Device`: the keeper is broken,
     /// and each of these cells may be open or closed. What the disk tells stays, whatever becomes of the call.
     pub fn close_free(&mut self, most: u64) -> Result<(), KeeperError>
-        ensures closed { OnOk result (IsClosed D.is_lawful D.state most self.old self.new) }
+        ensures closed { OnOk result (IsClosed D.view most self.old self.new) }
         ensures refused { IfErr result (λ e. IsUnclosed e self.old self.new) }
 
         // Where each of them is closed, or there is none, nothing is written.
-        ensures idle { D.is_lawful self.old.device → FreeAreShut self.old most (D.state self.old.device).bytes
-            → CrashSafe Unchanged (D.state self.old.device) (D.state self.new.device) }
+        ensures idle { (D.view self.old.device).lawful → FreeAreShut self.old most (D.view self.old.device).state.bytes
+            → CrashSafe Unchanged (D.view self.old.device).state (D.view self.new.device).state }
 
         // At every moment of the call a crash leaves what the disk stood for.
-        ensures crash { D.is_lawful self.old.device → CrashLeaves L.answers [] self.old (D.state self.old.device) (D.state self.new.device) }
-        ensures device { KeepsDevice D.capacity D.is_lawful D.failures Device result self.old.device self.new.device }
+        ensures crash { (D.view self.old.device).lawful → CrashLeaves L.answers [] self.old (D.view self.old.device).state (D.view self.new.device).state }
+        ensures device { KeepsDevice D.view Device result self.old.device self.new.device }
     {
         laws::told_in_parts();
         laws::standings_advance::<L>();

@@ -4,7 +4,7 @@ ghost use Rattle.td_machine.specs.Steps.{collect_step};
 ghost use Rattle.td_machine.specs.Reached.{IsReached};
 ghost use Rattle.td_machine.specs.Sound.{outs_by};
 ghost use Rattle.td_keeper.specs.Halls.{IsOwn, with_collected, collected_hall, meant_outs};
-ghost use Rattle.td_standing.specs.declared.error.KeeperError.TheVariants.{Foreign, Memory};
+ghost use Rattle.td_store.specs.declared.standing.error.KeeperError.TheVariants.{Foreign, Memory};
 
 use crate::keeper::Keeper;
 use crate::queue::append;
@@ -16,7 +16,7 @@ use td_disk::Disk;
 use td_pool::AnyHall;
 use td_pool::laws::each_is_sound;
 use td_stamp::EpochOut;
-use td_standing::KeeperError;
+use td_store::standing::KeeperError;
 
 impl<D: Disk, L: Law> Keeper<D, L> {
     /// Brings into the queue the outputs of the epochs that have passed in a hall since the last that was collected, and answers

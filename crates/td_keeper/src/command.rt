@@ -6,7 +6,7 @@ use crate::group::{Group, GroupError};
 use crate::receipt::Receipt;
 use td_questions::{Entries, Wanted};
 use td_stamp::{Batch, EpochOut};
-use td_standing::KeeperError;
+use td_store::standing::KeeperError;
 
 /// What a keeper is told to do.
 #[derive(Debug, Drop)]

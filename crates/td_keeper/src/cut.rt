@@ -6,10 +6,10 @@ ghost use Rattle.td_batch.specs.Meaning.{states_after};
 ghost use Rattle.td_machine.specs.Steps.{collect_step};
 ghost use Rattle.td_machine.specs.Reached.{IsReached};
 ghost use Rattle.td_machine.specs.Sound.{outs_by};
-ghost use Rattle.td_standing.specs.Standing.{batches_of};
+ghost use Rattle.td_store.specs.standing.Standing.{batches_of};
 ghost use Rattle.td_keeper.specs.Refused.{cut_refusal};
 ghost use Rattle.td_keeper.specs.Halls.{IsOwn, StaysOwn, with_collected, with_cut, collected_hall, cut_hall, cut_hall_up_to, last_passed, cut_place, place_between, meant_outs};
-ghost use Rattle.td_standing.specs.declared.error.KeeperError.TheVariants.{Foreign, Memory};
+ghost use Rattle.td_store.specs.declared.standing.error.KeeperError.TheVariants.{Foreign, Memory};
 
 use crate::keeper::{Keeper, Taken};
 use td_batch::laws::run_joins;
@@ -19,7 +19,7 @@ use td_disk::Disk;
 use td_machine::laws::base_has_passed;
 use td_pool::AnyHall;
 use td_pool::laws::each_is_sound;
-use td_standing::KeeperError;
+use td_store::standing::KeeperError;
 
 impl<D: Disk, L: Law> Keeper<D, L> {
     /// Cuts a hall at the last released epoch up to which all have passed, and answers that epoch: the cut is the base of the

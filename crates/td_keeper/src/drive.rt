@@ -1,10 +1,10 @@
 //! A keeper beside the workers of a pool.
 ghost use Rattle.std.specs.Prelude.{◌≡◌, ◌↔◌, ◌≤◌, true, false, IfOk, IfErr};
 ghost use Rattle.td_machine.specs.State.{HallState};
-ghost use Rattle.td_standing.specs.Standing.{last_request};
+ghost use Rattle.td_store.specs.standing.Standing.{last_request};
 ghost use Rattle.td_keeper.specs.Halls.{IsOwn};
 ghost use Rattle.td_keeper.specs.Driven.{needs_hall, Obeys, Drives};
-ghost use Rattle.td_standing.specs.declared.error.KeeperError.TheVariants.{Memory};
+ghost use Rattle.td_store.specs.declared.standing.error.KeeperError.TheVariants.{Memory};
 
 use crate::command::{Command, Reply};
 use crate::keeper::Keeper;
@@ -14,7 +14,7 @@ use td_calls::Law;
 use td_disk::Disk;
 use td_pool::{Crew, Pool};
 use td_stamp::Batch;
-use td_standing::{KeeperError, laws};
+use td_store::standing::{KeeperError, laws};
 
 impl<D: Disk, L: Law> Keeper<D, L> {
     /// Obeys commands, one after another, beside workers of a pool, and replies to each. What is done with the pool's hall is done
@@ -30,11 +30,11 @@ impl<D: Disk, L: Law> Keeper<D, L> {
         pool: &Pool<K, L>,
         commands: Vec<Command>,
     ) -> Result<Vec<Reply>, (KeeperError, Vec<Command>)>
-        ensures driven { IfOk result (λ replies. Drives D.is_lawful D.state D.failures L.answers commands.items replies.items self.old self.new) }
+        ensures driven { IfOk result (λ replies. Drives D.view L.answers commands.items replies.items self.old self.new) }
         ensures refused { IfErr result (λ e. (e.0 ≡ Memory) × (e.1 ≡ commands) × (self.new ≡ self.old)) }
-        ensures size { D.capacity self.new.device ≡ D.capacity self.old.device }
-        ensures lawful { D.is_lawful self.old.device ↔ D.is_lawful self.new.device }
-        ensures counted { D.failures self.old.device ≤ D.failures self.new.device }
+        ensures size { (D.view self.new.device).capacity ≡ (D.view self.old.device).capacity }
+        ensures lawful { (D.view self.old.device).lawful ↔ (D.view self.new.device).lawful }
+        ensures counted { (D.view self.old.device).failures ≤ (D.view self.new.device).failures }
 
         // The greatest request number never falls.
         ensures never_falls { last_request self.old.standing ≤ last_request self.new.standing }
@@ -61,9 +61,9 @@ impl<D: Disk, L: Law> Keeper<D, L> {
 
     /// Obeys one command, beside workers of a pool.
     fn obey<K: Crew, R: Wait>(&mut self, rt: &R, pool: &Pool<K, L>, command: Command) -> Reply
-        ensures obeyed { Obeys D.is_lawful D.state D.failures L.answers command result self.old self.new }
-        ensures size { D.capacity self.new.device ≡ D.capacity self.old.device }
-        ensures lawful { D.is_lawful self.old.device ↔ D.is_lawful self.new.device }
+        ensures obeyed { Obeys D.view L.answers command result self.old self.new }
+        ensures size { (D.view self.new.device).capacity ≡ (D.view self.old.device).capacity }
+        ensures lawful { (D.view self.old.device).lawful ↔ (D.view self.new.device).lawful }
     {
         match command {
             Command::Release => Reply::of_release(self.release_in(rt, pool)),
@@ -81,9 +81,9 @@ impl<D: Disk, L: Law> Keeper<D, L> {
     /// Obeys a command for which it needs no hall, as the call of that name does. A hall that was this keeper's own is so after it.
     pub fn obey_without_hall(&mut self, command: Command) -> Reply
         requires { needs_hall command ≡ false }
-        ensures obeyed { Obeys D.is_lawful D.state D.failures L.answers command result self.old self.new }
-        ensures size { D.capacity self.new.device ≡ D.capacity self.old.device }
-        ensures lawful { D.is_lawful self.old.device ↔ D.is_lawful self.new.device }
+        ensures obeyed { Obeys D.view L.answers command result self.old self.new }
+        ensures size { (D.view self.new.device).capacity ≡ (D.view self.old.device).capacity }
+        ensures lawful { (D.view self.old.device).lawful ↔ (D.view self.new.device).lawful }
         ensures own { (S : HallState) → IsOwn self.old S → IsOwn self.new S }
     {
         each_is_kept(self);

@@ -5,7 +5,7 @@ ghost use Rattle.td_calls.specs.Fits.{first_lack};
 ghost use Rattle.td_machine.specs.Steps.{opened};
 ghost use Rattle.td_core.specs.Drained.{IsKept};
 ghost use Rattle.td_keeper.specs.Driven.{Releases, Settles, Collects, Cuts, Asks, released, settled, collected, cut, answered};
-ghost use Rattle.td_standing.specs.declared.error.KeeperError.TheVariants.{Memory};
+ghost use Rattle.td_store.specs.declared.standing.error.KeeperError.TheVariants.{Memory};
 
 use crate::command::{Command, Reply};
 use crate::keeper::Keeper;
@@ -19,7 +19,7 @@ use td_core::{Hall, HallError};
 use td_disk::Disk;
 use td_questions::{Entries, Wanted};
 use td_stamp::EpochOut;
-use td_standing::KeeperError;
+use td_store::standing::KeeperError;
 
 /// A keeper with a hall of its own, and the closures by which the hall's tasks are run, in whatever thread calls it. Contracts see
 /// the keeper and the hall.

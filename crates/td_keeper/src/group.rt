@@ -3,7 +3,7 @@ ghost use Rattle.std.specs.Prelude.{◌≡◌};
 
 use std::marker::Model;
 use td_journal::Submitted;
-use td_standing::KeeperError;
+use td_store::standing::KeeperError;
 use thiserror::Error;
 
 /// Batches that are submitted at once, each with its request number, 0 for none. Contracts see it as their list.

@@ -3,14 +3,15 @@ ghost use Rattle.std.specs.Prelude.{◌≡◌, ◌⊎◌, ◌≤◌, IfOk, IfErr
 ghost use Rattle.td_disk.specs.Disk.{IsDurable};
 ghost use Rattle.td_gate.specs.CrashSafe.{CrashSafe, Unchanged};
 ghost use Rattle.td_head.specs.Layout.{size_of};
-ghost use Rattle.td_standing.specs.Standing.{batches_of, nothing_told};
-ghost use Rattle.td_standing.specs.Told.{Told};
-ghost use Rattle.td_standing.specs.Tells.{Keeps, first_head};
-ghost use Rattle.td_standing.specs.Read.{MayStand, standing_of, Stood, Refused};
-ghost use Rattle.td_standing.specs.Advanced.{HeldWhere};
+ghost use Rattle.td_store.specs.standing.Standing.{batches_of, nothing_told};
+ghost use Rattle.td_store.specs.standing.Told.{Told};
+ghost use Rattle.td_store.specs.standing.Tells.{Keeps, first_head};
+ghost use Rattle.td_store.specs.standing.Read.{MayStand, standing_of, Stood, Refused};
+ghost use Rattle.td_store.specs.standing.Advanced.{HeldWhere};
 ghost use Rattle.td_keeper.specs.Keeping.{Keeping, IsFreshlyOpened};
-ghost use Rattle.td_keeper.specs.Calls.{KeepsDevice, outcome, disk_in};
-ghost use Rattle.td_standing.specs.declared.error.KeeperError.TheVariants.{Device};
+ghost use Rattle.td_disk.specs.Calls.{KeepsDevice};
+ghost use Rattle.td_keeper.specs.Calls.{outcome, disk_in};
+ghost use Rattle.td_store.specs.declared.standing.error.KeeperError.TheVariants.{Device};
 
 use crate::laws::each_is_kept;
 use std::alloc::Global;
@@ -23,7 +24,7 @@ use td_journal::{Submitted, greatest_request};
 use td_plan::Plan;
 use td_slots::Checkpoint;
 use td_stamp::{Batch, EpochOut, OrderedStates, States};
-use td_standing::{KeeperError, Recovered, format_device, laws, recover_device};
+use td_store::standing::{KeeperError, Recovered, format_device, laws, recover_device};
 use td_watch::Writer;
 
 /// A cut that was taken since the checkpoint was written, and whether it waits to be written.
@@ -61,20 +62,20 @@ impl<D: Disk, L: Law> Model for Keeper<D, L> {
     ghost use Rattle.std.specs.Prelude.{◌≡◌, ◌≤◌};
     ghost use Rattle.td_head.specs.Layout.{size_of};
     ghost use Rattle.td_journal.specs.Numbers.{greatest};
-    ghost use Rattle.td_standing.specs.Standing.{standing_from};
-    ghost use Rattle.td_standing.specs.Advanced.{HeldWhere};
+    ghost use Rattle.td_store.specs.standing.Standing.{standing_from};
+    ghost use Rattle.td_store.specs.standing.Advanced.{HeldWhere};
     ghost use Rattle.td_keeper.specs.Keeping.{Keeping, IsKeeping, KeepsToWhere, base_of, keeping_of};
 
     ghost Value = { Keeping D };
 
     ghost view = { λ k. keeping_of k.device k.plan k.head k.checkpoint k.submitted.items k.broken k.taken k.collected k.queue.items k.watch };
 
-    ghost invariant = { λ k. (size_of k.head.shape ≤ D.capacity k.device)
+    ghost invariant = { λ k. (size_of k.head.shape ≤ (D.view k.device).capacity)
         × IsKeeping (keeping_of k.device k.plan k.head k.checkpoint k.submitted.items k.broken k.taken k.collected k.queue.items k.watch) L.answers
-        × (D.is_lawful k.device
-        → HeldWhere k.broken L.answers k.plan k.head k.checkpoint.slot (standing_from k.checkpoint k.submitted.items) (D.state k.device))
+        × ((D.view k.device).lawful
+        → HeldWhere k.broken L.answers k.plan k.head k.checkpoint.slot (standing_from k.checkpoint k.submitted.items) (D.view k.device).state)
         × (k.last_request ≡ greatest k.checkpoint.last k.submitted.items)
-        × (D.is_lawful k.device → KeepsToWhere k.broken k.plan (base_of k.checkpoint k.taken) (D.state k.device)) };
+        × ((D.view k.device).lawful → KeepsToWhere k.broken k.plan (base_of k.checkpoint k.taken) (D.view k.device).state) };
 }
 
 impl<D: Disk, L: Law> Keeper<D, L> {
@@ -86,14 +87,14 @@ impl<D: Disk, L: Law> Keeper<D, L> {
         plan: &Plan,
         shape: Shape,
     ) -> Result<Keeper<D, L>, (KeeperError, D)>
-        requires { size_of shape ≤ D.capacity disk }
-        ensures device { KeepsDevice D.capacity D.is_lawful D.failures Device (outcome result) disk (disk_in result) }
+        requires { size_of shape ≤ (D.view disk).capacity }
+        ensures device { KeepsDevice D.view Device (outcome result) disk (disk_in result) }
         ensures plan { IfOk result (λ k. k.plan ≡ plan.now) }
         ensures head { IfOk result (λ k. (k.head ≡ first_head shape) × (k.side ≡ 0)) }
         ensures standing { IfOk result (λ k. k.standing ≡ nothing_told) }
         ensures fresh { IfOk result IsFreshlyOpened }
-        ensures kept { IfOk result (λ k. D.is_lawful disk
-            → Keeps plan.now (first_head shape) 0 nothing_told (D.state k.device)) }
+        ensures kept { IfOk result (λ k. (D.view disk).lawful
+            → Keeps plan.now (first_head shape) 0 nothing_told (D.view k.device).state) }
         ensures refusals { IfErr result (λ e. (e.0 ≡ KeeperError.Memory) ⊎ (e.0 ≡ KeeperError.Device)) }
     {
         let mut device = disk;
@@ -128,20 +129,20 @@ impl<D: Disk, L: Law> Keeper<D, L> {
     pub fn recover(alloc: Global, disk: D, plan: &Plan) -> Result<Keeper<D, L>, (KeeperError, D)>
         ensures plan { IfOk result (λ k. k.plan ≡ plan.now) }
         ensures fresh { IfOk result IsFreshlyOpened }
-        ensures told { IfOk result (λ k. D.is_lawful disk → Told plan.now (D.state k.device).bytes (Stood k.standing)) }
-        ensures kept { IfOk result (λ k. D.is_lawful disk
-            → Keeps plan.now k.head k.side k.standing (D.state k.device)) }
+        ensures told { IfOk result (λ k. (D.view disk).lawful → Told plan.now (D.view k.device).state.bytes (Stood k.standing)) }
+        ensures kept { IfOk result (λ k. (D.view disk).lawful
+            → Keeps plan.now k.head k.side k.standing (D.view k.device).state) }
 
         // A refusal but `Memory` and `Device` is told by what is read after the sync, which is all that a crash leaves.
         ensures refused { IfErr result (λ e. (e.0 ≡ KeeperError.Device) ⊎ ((e.0 ≡ KeeperError.Memory)
-            ⊎ (D.is_lawful disk
-            → IsDurable (D.state e.1) × Told plan.now (D.state e.1).bytes (Refused e.0)))) }
+            ⊎ ((D.view disk).lawful
+            → IsDurable (D.view e.1).state × Told plan.now (D.view e.1).state.bytes (Refused e.0)))) }
 
         // What a crash may leave since the start of the call, it might have left then.
-        ensures crash_safe { D.is_lawful disk → CrashSafe Unchanged (D.state disk) (D.state (disk_in result)) }
+        ensures crash_safe { (D.view disk).lawful → CrashSafe Unchanged (D.view disk).state (D.view (disk_in result)).state }
 
         // A call of the disk that failed is never told as want of memory.
-        ensures device { KeepsDevice D.capacity D.is_lawful D.failures Device (outcome result) disk (disk_in result) }
+        ensures device { KeepsDevice D.view Device (outcome result) disk (disk_in result) }
     {
         laws::told_in_parts();
         let mut device = disk;
@@ -214,8 +215,8 @@ impl<D: Disk, L: Law> Keeper<D, L> {
     /// The disk.
     pub fn into_disk(self) -> D
         ensures disk { result ≡ self.device }
-        ensures held { D.is_lawful self.device
-            → HeldWhere self.broken L.answers self.plan self.head self.side self.standing (D.state self.device) }
+        ensures held { (D.view self.device).lawful
+            → HeldWhere self.broken L.answers self.plan self.head self.side self.standing (D.view self.device).state }
     {
         let Keeper {
             alloc: _,

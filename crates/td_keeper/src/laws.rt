@@ -1,11 +1,11 @@
 //! Laws of keepers. Each is the contract of a function that does nothing.
 ghost use Rattle.std.specs.Prelude.{◌≡◌, ◌≤◌, false, List, ℕ, All, Contains};
-ghost use Rattle.td_standing.specs.Standing.{Standing, last_epoch, last_request};
-ghost use Rattle.td_standing.specs.Told.{Told};
-ghost use Rattle.td_standing.specs.Read.{Stood};
+ghost use Rattle.td_store.specs.standing.Standing.{Standing, last_epoch, last_request};
+ghost use Rattle.td_store.specs.standing.Told.{Told};
+ghost use Rattle.td_store.specs.standing.Read.{Stood};
 ghost use Rattle.td_journal.specs.declared.submitted.Submitted.{Submitted as AnySubmitted};
-ghost use Rattle.td_standing.specs.Stops.{Stands};
-ghost use Rattle.td_standing.specs.Advanced.{HeldWhere, states_by};
+ghost use Rattle.td_store.specs.standing.Stops.{Stands};
+ghost use Rattle.td_store.specs.standing.Advanced.{HeldWhere, states_by};
 ghost use Rattle.td_keeper.specs.Keeping.{Keeping, IsKeeping, EachKeepsTo, KeepsSince, KeepsToWhere};
 ghost use Rattle.td_keeper.specs.declared.command.Command.{Command as AnyCommand};
 ghost use Rattle.td_keeper.specs.declared.command.Reply.{Reply as AnyReply};
@@ -17,7 +17,7 @@ use crate::keeper::Keeper;
 use crate::obey::Obey;
 use td_calls::Law;
 use td_disk::Disk;
-use td_standing::laws;
+use td_store::standing::laws;
 
 /// Each keeper that anybody can hold keeps its memory right: what it stands for may stand on its disk, and its base is one of
 /// its epochs, with the batch meaning's states.
@@ -38,8 +38,8 @@ pub fn each_at_work_is_kept<D: Disk, L: Law, R, E: Obey<D, L, R>>(engine: &E)
 /// And a lawful disk of each keeper holds what it stands for, image by image; after a fault of the device in a call that writes,
 /// an advance of it that holds all of its epochs.
 pub fn each_disk_holds<D: Disk, L: Law>(keeper: &Keeper<D, L>)
-    ensures { D.is_lawful keeper.now.device
-        → HeldWhere keeper.now.broken L.answers keeper.now.plan keeper.now.head keeper.now.side keeper.now.standing (D.state keeper.now.device) }
+    ensures { (D.view keeper.now.device).lawful
+        → HeldWhere keeper.now.broken L.answers keeper.now.plan keeper.now.head keeper.now.side keeper.now.standing (D.view keeper.now.device).state }
 {
     // Read for its contract alone.
     let _collected = keeper.collected;
@@ -47,8 +47,8 @@ pub fn each_disk_holds<D: Disk, L: Law>(keeper: &Keeper<D, L>)
 
 /// After a fault of the device in a call that writes, nothing is kept beyond a keeper's base.
 fn each_stops_short<D: Disk, L: Law>(keeper: &Keeper<D, L>)
-    ensures { D.is_lawful keeper.now.device
-        → KeepsToWhere keeper.now.broken keeper.now.plan keeper.now.base (D.state keeper.now.device) }
+    ensures { (D.view keeper.now.device).lawful
+        → KeepsToWhere keeper.now.broken keeper.now.plan keeper.now.base (D.view keeper.now.device).state }
 {
     // Read for its contract alone.
     let _collected = keeper.collected;
@@ -56,7 +56,7 @@ fn each_stops_short<D: Disk, L: Law>(keeper: &Keeper<D, L>)
 
 /// Whatever a crash leaves of a keeper's lawful disk, nothing is kept beyond the keeper's base, which is the last cut that it took.
 pub fn each_keeps_to_its_base<D: Disk, L: Law>(keeper: &Keeper<D, L>)
-    ensures { D.is_lawful keeper.now.device → EachKeepsTo keeper.now.plan keeper.now.base (D.state keeper.now.device) }
+    ensures { (D.view keeper.now.device).lawful → EachKeepsTo keeper.now.plan keeper.now.base (D.view keeper.now.device).state }
 {
     laws::told_in_parts();
     each_is_kept(keeper);
@@ -67,7 +67,7 @@ pub fn each_keeps_to_its_base<D: Disk, L: Law>(keeper: &Keeper<D, L>)
 /// Whatever a crash leaves of a keeper's lawful disk tells a request number at least as great as the keeper's last one, also
 /// after a fault of the device. So a request that was answered `New` or `Already` is `Already` to each keeper that recovers it.
 pub fn each_has_requests<D: Disk, L: Law>(keeper: &Keeper<D, L>)
-    ensures { D.is_lawful keeper.now.device → (c : List ℕ) → (D.state keeper.now.device).images c
+    ensures { (D.view keeper.now.device).lawful → (c : List ℕ) → (D.view keeper.now.device).state.images c
         → (s : Standing) × Told keeper.now.plan c (Stood s) × (last_request keeper.now.standing ≤ last_request s) }
 {
     laws::told_in_parts();
@@ -78,14 +78,14 @@ pub fn each_has_requests<D: Disk, L: Law>(keeper: &Keeper<D, L>)
 /// A command that does not write leaves the disk, and what a keeper stands for, as it was, whatever the reply is.
 pub fn others_rest<D: Disk, L: Law>()
     ensures { (command : AnyCommand) (reply : AnyReply) (old new : Keeping D) → may_write command ≡ false
-        → Obeys D.is_lawful D.state D.failures L.answers command reply old new → Rests old new }
+        → Obeys D.view L.answers command reply old new → Rests old new }
 {}
 
 /// What commands acknowledge is counted by the keeper that they leave, whatever else they come to: so a lawful disk of it holds each of
 /// these epochs, image by image, also after a fault of the device (`each_disk_holds`).
 pub fn acknowledged_is_counted<D: Disk, L: Law>()
-    ensures { (commands : List AnyCommand) (replies : List AnyReply) (old new : Keeping D) → IsKeeping old L.answers → D.is_lawful old.device
-        → Driven D.is_lawful D.state D.failures L.answers commands replies old new
+    ensures { (commands : List AnyCommand) (replies : List AnyReply) (old new : Keeping D) → IsKeeping old L.answers → (D.view old.device).lawful
+        → Driven D.view L.answers commands replies old new
         → (new.plan ≡ old.plan) × All (AcknowledgesUpTo (last_epoch new.standing)) replies }
 {
     laws::advances_join::<L>();
@@ -95,7 +95,7 @@ pub fn acknowledged_is_counted<D: Disk, L: Law>()
 /// left, are the queue found, followed by those of the epochs collected since.
 pub fn driven_hands_on<D: Disk, L: Law>()
     ensures { (commands : List AnyCommand) (replies : List AnyReply) (old new : Keeping D) → IsKeeping old L.answers
-        → Driven D.is_lawful D.state D.failures L.answers commands replies old new
+        → Driven D.view L.answers commands replies old new
         → HandsOn L.answers old new (submitted_by commands replies) (handed_out replies) }
 {
     laws::advances_join::<L>();
@@ -106,9 +106,9 @@ pub fn driven_hands_on<D: Disk, L: Law>()
 /// all that they submitted, which holds every epoch of it.
 pub fn driven_advances<D: Disk, L: Law>()
     ensures { (commands : List AnyCommand) (replies : List AnyReply) (old new : Keeping D) → IsKeeping old L.answers
-        → D.is_lawful old.device → old.broken ≡ false
-        → Driven D.is_lawful D.state D.failures L.answers commands replies old new
-        → Advances D.is_lawful D.state D.failures L.answers old new (submitted_by commands replies) }
+        → (D.view old.device).lawful → old.broken ≡ false
+        → Driven D.view L.answers commands replies old new
+        → Advances D.view L.answers old new (submitted_by commands replies) }
 {
     laws::advances_join::<L>();
 }
@@ -116,9 +116,9 @@ pub fn driven_advances<D: Disk, L: Law>()
 /// NOTHING IS KEPT BEYOND A KEEPER'S BASE, at each moment of commands, in the middle of a write too. The base never falls; and each image that a
 /// crash leaves at such a moment was one before the commands, or the checkpoint that it tells is of no epoch beyond the base.
 pub fn driven_keeps_to_its_base<D: Disk, L: Law>()
-    ensures { (commands : List AnyCommand) (replies : List AnyReply) (old new : Keeping D) → D.is_lawful old.device
-        → Driven D.is_lawful D.state D.failures L.answers commands replies old new
-        → (old.base ≤ new.base) × KeepsSince old.plan new.base (D.state old.device) (D.state new.device) }
+    ensures { (commands : List AnyCommand) (replies : List AnyReply) (old new : Keeping D) → (D.view old.device).lawful
+        → Driven D.view L.answers commands replies old new
+        → (old.base ≤ new.base) × KeepsSince old.plan new.base (D.view old.device).state (D.view new.device).state }
 {
     td_machine::laws::reached::<L>();
 }
@@ -127,7 +127,7 @@ pub fn driven_keeps_to_its_base<D: Disk, L: Law>()
 /// of the commands; a keeper that stood for a history stands for that and these, each at the place that its reply told.
 pub fn driven_acknowledges<D: Disk, L: Law>()
     ensures { (commands : List AnyCommand) (replies : List AnyReply) (old new : Keeping D) → IsKeeping old L.answers
-        → Driven D.is_lawful D.state D.failures L.answers commands replies old new
+        → Driven D.view L.answers commands replies old new
         → Acknowledges L.answers commands replies old new }
 {
     laws::advance_stands::<L>();
@@ -139,7 +139,7 @@ pub fn driven_acknowledges<D: Disk, L: Law>()
 /// acknowledged before it: of the last epoch of these, and by their states in the batch meaning.
 pub fn driven_answers<D: Disk, L: Law>()
     ensures { (commands : List AnyCommand) (replies : List AnyReply) (old new : Keeping D) (history : List AnySubmitted) → IsKeeping old L.answers
-        → Driven D.is_lawful D.state D.failures L.answers commands replies old new
+        → Driven D.view L.answers commands replies old new
         → Stands (states_by L.answers old.plan) old.standing history
         → AllOfHistory L.answers old.plan history commands replies }
 {
@@ -152,7 +152,7 @@ pub fn driven_answers<D: Disk, L: Law>()
 /// acknowledged is.
 pub fn handed_is_counted<D: Disk, L: Law>()
     ensures { (commands : List AnyCommand) (replies : List AnyReply) (old new : Keeping D) → IsKeeping old L.answers
-        → Driven D.is_lawful D.state D.failures L.answers commands replies old new
+        → Driven D.view L.answers commands replies old new
         → All (λ out. out.epoch ≤ last_epoch old.standing) old.queue
         → All (HandsOutUpTo (last_epoch new.standing)) replies × All (λ out. out.epoch ≤ last_epoch new.standing) new.queue }
 {
@@ -165,11 +165,11 @@ pub fn handed_is_counted<D: Disk, L: Law>()
 /// reply there, and each output that was handed out is that history's, where those in the queue found were.
 pub fn acknowledged_is_told<D: Disk, L: Law>()
     ensures { (commands : List AnyCommand) (replies : List AnyReply) (old new : Keeping D) (history : List AnySubmitted) → IsKeeping old L.answers
-        → Driven D.is_lawful D.state D.failures L.answers commands replies old new
+        → Driven D.view L.answers commands replies old new
         → Stands (states_by L.answers old.plan) old.standing history
         → All (Contains (outs_of L.answers old.plan history)) old.queue
-        → HeldWhere new.broken L.answers new.plan new.head new.side new.standing (D.state new.device)
-        → (c : List ℕ) → (D.state new.device).images c
+        → HeldWhere new.broken L.answers new.plan new.head new.side new.standing (D.view new.device).state
+        → (c : List ℕ) → (D.view new.device).state.images c
         → TellsWork L.answers old.plan (acknowledged_by commands replies) (handed_out replies) c }
 {
     laws::told_in_parts();

@@ -38,4 +38,4 @@ pub use group::{Group, GroupError};
 pub use keeper::Keeper;
 pub use obey::{Obey, tell_one};
 pub use receipt::Receipt;
-pub use td_standing::{KeeperError, Part};
+pub use td_store::standing::{KeeperError, Part};

@@ -13,7 +13,7 @@ use td_calls::Law;
 use td_disk::Disk;
 use td_questions::{Entries, Wanted};
 use td_stamp::EpochOut;
-use td_standing::{KeeperError, laws};
+use td_store::standing::{KeeperError, laws};
 
 /// A keeper, and a hall that works on its epochs: one of its own (`Engine`), or that of a pool, which others lend it. It is told
 /// commands, one after another, and replies to each.
@@ -36,50 +36,50 @@ pub trait Obey<D: Disk, L: Law, R> {
 
     /// Releases into the hall the epochs on the journal that it lacks, and answers how many these are.
     fn release(&mut self, rt: &R) -> Result<u64, KeeperError>
-        ensures released { Releases D.is_lawful D.state D.failures L.answers (released result) (keeping self.old) (keeping self.new) }
+        ensures released { Releases D.view L.answers (released result) (keeping self.old) (keeping self.new) }
         ensures own { alone ≡ true → ComesOf Release (released result) (keeping self.old) (hall self.old) (keeping self.new) (hall self.new) };
 
     /// Lets every epoch pass that was released. Refusal: `NotPassed` of the first that has not, where no more tasks are run.
     fn settle(&mut self, rt: &R) -> Result<(), KeeperError>
-        ensures settled { Settles D.is_lawful D.state D.failures L.answers (settled result) (keeping self.old) (keeping self.new) }
+        ensures settled { Settles D.view L.answers (settled result) (keeping self.old) (keeping self.new) }
         ensures own { alone ≡ true → ComesOf Settle (settled result) (keeping self.old) (hall self.old) (keeping self.new) (hall self.new) };
 
     /// Brings into the queue what has come to the outputs of the hall for epochs that have passed, and answers for how many epochs.
     fn collect(&mut self, rt: &R) -> Result<u64, KeeperError>
-        ensures collected { Collects D.is_lawful D.state D.failures L.answers (collected result) (keeping self.old) (keeping self.new) }
+        ensures collected { Collects D.view L.answers (collected result) (keeping self.old) (keeping self.new) }
         ensures own { alone ≡ true → ComesOf Collect (collected result) (keeping self.old) (hall self.old) (keeping self.new) (hall self.new) };
 
     /// Cuts the hall, and answers at which epoch: the cut waits to be written.
     fn cut(&mut self, rt: &R) -> Result<u64, KeeperError>
-        ensures cut { Cuts D.is_lawful D.state D.failures L.answers None (cut result) (keeping self.old) (keeping self.new) }
+        ensures cut { Cuts D.view L.answers None (cut result) (keeping self.old) (keeping self.new) }
         ensures own { alone ≡ true → ComesOf Cut (cut result) (keeping self.old) (hall self.old) (keeping self.new) (hall self.new) };
 
     /// Cuts the hall at no epoch above this one, and answers at which: the cut waits to be written.
     fn cut_up_to(&mut self, rt: &R, epoch: u64) -> Result<u64, KeeperError>
-        ensures cut { Cuts D.is_lawful D.state D.failures L.answers (Some epoch) (cut result) (keeping self.old) (keeping self.new) };
+        ensures cut { Cuts D.view L.answers (Some epoch) (cut result) (keeping self.old) (keeping self.new) };
 
     /// The entries that answer what is wanted of a fold, of the states after the last epoch on the journal, and that epoch. Refusal:
     /// `NotPassed` of the first that has not passed.
     fn answer(&self, rt: &R, vertex: u8, wanted: Wanted) -> Result<(u64, Entries), KeeperError>
-        ensures { Asks D.is_lawful D.state D.failures L.answers vertex wanted (answered result) (keeping self.now) (keeping self.now) };
+        ensures { Asks D.view L.answers vertex wanted (answered result) (keeping self.now) (keeping self.now) };
 
     /// Hands out the outputs of the first epoch of those that were collected and not yet handed out; None where there is none.
     fn next_out(&mut self) -> Option<EpochOut>
-        ensures { HandsOut D.is_lawful D.state D.failures L.answers (Out result) (keeping self.old) (keeping self.new) };
+        ensures { HandsOut D.view L.answers (Out result) (keeping self.old) (keeping self.new) };
 
     /// Obeys a command for which the keeper needs no hall.
     fn obey_without_hall(&mut self, command: Command) -> Reply
         requires { needs_hall command ≡ false }
-        ensures obeyed { Obeys D.is_lawful D.state D.failures L.answers command result (keeping self.old) (keeping self.new) }
-        ensures size { D.capacity (keeping self.new).device ≡ D.capacity (keeping self.old).device }
-        ensures lawful { D.is_lawful (keeping self.old).device ↔ D.is_lawful (keeping self.new).device };
+        ensures obeyed { Obeys D.view L.answers command result (keeping self.old) (keeping self.new) }
+        ensures size { (D.view (keeping self.new).device).capacity ≡ (D.view (keeping self.old).device).capacity }
+        ensures lawful { (D.view (keeping self.old).device).lawful ↔ (D.view (keeping self.new).device).lawful };
 
     /// Obeys one command.
     final fn obey(&mut self, rt: &R, command: Command) -> Reply
-        ensures obeyed { Obeys D.is_lawful D.state D.failures L.answers command result (keeping self.old) (keeping self.new) }
+        ensures obeyed { Obeys D.view L.answers command result (keeping self.old) (keeping self.new) }
         ensures own { alone ≡ true → ComesOf command result (keeping self.old) (hall self.old) (keeping self.new) (hall self.new) }
-        ensures size { D.capacity (keeping self.new).device ≡ D.capacity (keeping self.old).device }
-        ensures lawful { D.is_lawful (keeping self.old).device ↔ D.is_lawful (keeping self.new).device }
+        ensures size { (D.view (keeping self.new).device).capacity ≡ (D.view (keeping self.old).device).capacity }
+        ensures lawful { (D.view (keeping self.old).device).lawful ↔ (D.view (keeping self.new).device).lawful }
     {
         match command {
             Command::Release => Reply::of_release(self.release(rt)),
@@ -99,10 +99,10 @@ pub fn tell_one<D: Disk, L: Law, R, E: Obey<D, L, R>>(
     engine: &mut E,
     command: Command,
 ) -> Reply
-    ensures told { IsTold D.is_lawful D.state D.failures L.answers command result (E.keeping engine.old) (E.keeping engine.new) }
+    ensures told { IsTold D.view L.answers command result (E.keeping engine.old) (E.keeping engine.new) }
     ensures own { E.alone ≡ true → ComesOf command result (E.keeping engine.old) (E.hall engine.old) (E.keeping engine.new) (E.hall engine.new) }
-    ensures size { D.capacity (E.keeping engine.new).device ≡ D.capacity (E.keeping engine.old).device }
-    ensures lawful { D.is_lawful (E.keeping engine.old).device ↔ D.is_lawful (E.keeping engine.new).device }
+    ensures size { (D.view (E.keeping engine.new).device).capacity ≡ (D.view (E.keeping engine.old).device).capacity }
+    ensures lawful { (D.view (E.keeping engine.old).device).lawful ↔ (D.view (E.keeping engine.new).device).lawful }
 {
     laws::told_in_parts();
     laws::standings_advance::<L>();

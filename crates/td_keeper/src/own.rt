@@ -5,7 +5,7 @@
 //! records since. A caller that releases when as much is new as was compared before pays for twice the records in all.
 ghost use Rattle.std.specs.Prelude.{◌≡◌, ◌++◌, ◌-◌, ◌≤◌, ◌↔◌, List, drop, length, map, IsTrue};
 ghost use Rattle.td_stamp.specs.declared.values.Entry.{Entry};
-ghost use Rattle.td_standing.specs.Standing.{batches_of};
+ghost use Rattle.td_store.specs.standing.Standing.{batches_of};
 ghost use Rattle.td_keeper.specs.Halls.{IsOwn, Begin};
 
 use crate::keeper::Keeper;

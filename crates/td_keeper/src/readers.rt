@@ -1,14 +1,14 @@
 //! How far a keeper has come. All but `kept_states` take no memory.
 ghost use Rattle.std.specs.Prelude.{◌≡◌, ◌↔◌, ◌≤◌, ◌+◌, ◌-◌, ◌^◌, IsTrue, length, min, IfOk, IfErr};
 ghost use Rattle.std.specs.List.{sum_by};
-ghost use Rattle.td_standing.specs.Standing.{last_epoch, last_request};
+ghost use Rattle.td_store.specs.standing.Standing.{last_epoch, last_request};
 
 use crate::keeper::Keeper;
 use td_calls::Law;
 use td_disk::Disk;
 use td_plan::Plan;
 use td_stamp::States;
-use td_standing::KeeperError;
+use td_store::standing::KeeperError;
 
 impl<D: Disk, L: Law> Keeper<D, L> {
     /// The last epoch that is acknowledged: that of the checkpoint, or the last on the journal after it.

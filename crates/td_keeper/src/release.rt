@@ -1,12 +1,12 @@
 //! Releasing epochs into halls.
 ghost use Rattle.std.specs.Prelude.{◌≡◌, ◌⊎◌, ◌+◌, ◌^◌, ◌≤◌, ℕ, length, take, drop, false, true, All, IfOk, IfErr};
 ghost use Rattle.td_journal.specs.Cell.{is_batch};
-ghost use Rattle.td_standing.specs.Standing.{batches_of};
-ghost use Rattle.td_standing.specs.Told.{inputs_of};
+ghost use Rattle.td_store.specs.standing.Standing.{batches_of};
+ghost use Rattle.td_store.specs.standing.Told.{inputs_of};
 ghost use Rattle.td_machine.specs.Reached.{IsReached};
 ghost use Rattle.td_keeper.specs.Keeping.{since_base};
 ghost use Rattle.td_keeper.specs.Halls.{IsOwn, StaysOwn, lacking, with_released};
-ghost use Rattle.td_standing.specs.declared.error.KeeperError.TheVariants.{Foreign, Memory};
+ghost use Rattle.td_store.specs.declared.standing.error.KeeperError.TheVariants.{Foreign, Memory};
 
 use crate::keeper::Keeper;
 use std::collections::VecDeque;
@@ -18,7 +18,7 @@ use td_machine::laws::reached_in_order;
 use td_plan::laws::look_ups;
 use td_pool::AnyHall;
 use td_pool::laws::each_is_sound;
-use td_standing::KeeperError;
+use td_store::standing::KeeperError;
 
 impl<D: Disk, L: Law> Keeper<D, L> {
     /// Releases into a hall the epochs on the journal that it lacks, and answers how many these are: the hall then has all

@@ -1,23 +1,24 @@
 //! Submitting batches.
 ghost use Rattle.std.specs.Prelude.{◌≡◌, ◌⊎◌, ◌+◌, ◌≤◌, ℕ, max, [], ◌∷◌, length, false, true, Some, None, IfOk, IfErr, IfNone, OnOk};
 ghost use Rattle.td_journal.specs.Cell.{is_batch};
-ghost use Rattle.td_standing.specs.Standing.{last_epoch, last_request, submission};
-ghost use Rattle.td_standing.specs.Told.{inputs_of};
-ghost use Rattle.td_standing.specs.Tells.{IsFresh};
+ghost use Rattle.td_store.specs.standing.Standing.{last_epoch, last_request, submission};
+ghost use Rattle.td_store.specs.standing.Told.{inputs_of};
+ghost use Rattle.td_store.specs.standing.Tells.{IsFresh};
 ghost use Rattle.td_keeper.specs.Keeping.{with_batch};
 ghost use Rattle.td_keeper.specs.Refused.{is_new, submit_refusal, request_refusal, submit_as_refusal};
-ghost use Rattle.td_standing.specs.declared.error.KeeperError.TheVariants.{Memory, Device, Broken, OldVersion};
-ghost use Rattle.td_keeper.specs.Calls.{IsSubmitted, IsAnswered, IsRefused, CrashLeaves, KeepsDevice, outcome};
+ghost use Rattle.td_store.specs.declared.standing.error.KeeperError.TheVariants.{Memory, Device, Broken, OldVersion};
+ghost use Rattle.td_disk.specs.Calls.{KeepsDevice};
+ghost use Rattle.td_keeper.specs.Calls.{IsSubmitted, IsAnswered, IsRefused, CrashLeaves, outcome};
 
 use crate::keeper::Keeper;
 use crate::receipt::Receipt;
 use crate::submit_all::is_accepted;
 use td_calls::Law;
 use td_disk::Disk;
-use td_group::NextCell;
 use td_journal::Submitted;
 use td_stamp::{Batch, EPOCHS_END};
-use td_standing::{KeeperError, laws};
+use td_store::group::NextCell;
+use td_store::standing::{KeeperError, laws};
 
 /// The first version of the format that has request numbers.
 pub(crate) const NUMBERED: u32 = 2;
@@ -34,12 +35,13 @@ impl<D: Disk, L: Law> Keeper<D, L> {
     /// a number is one of number 0, put in the same way.
     pub fn submit(&mut self, batch: Batch) -> Result<u64, (KeeperError, Batch)>
         ensures submitted { IfOk result (λ epoch. IsSubmitted batch epoch self.old self.new) }
-        ensures refused { IfErr result (λ e. IsRefused D.is_lawful D.state L.answers Memory Device (submit_refusal self.old batch) e.0 self.old self.new) }
+        ensures refused { IfErr result (λ e. IsRefused D.view L.answers Memory Device (submit_refusal self.old batch) e.0 self.old self.new) }
         ensures back { IfErr result (λ e. e.1 ≡ batch) }
 
-        // At every moment of the call a crash leaves what the disk stood for, or that with the batch; and all of it after Ok.
-        ensures crash { D.is_lawful self.old.device → CrashLeaves L.answers (submission 0 batch ∷ []) self.old (D.state self.old.device) (D.state self.new.device) }
-        ensures device { KeepsDevice D.capacity D.is_lawful D.failures Device (outcome result) self.old.device self.new.device }
+        // At every moment of the call a crash leaves what the disk stood for, or that with the batch. After Ok the disk holds what the keeper stands for
+        // (`laws::each_disk_holds`).
+        ensures crash { (D.view self.old.device).lawful → CrashLeaves L.answers (submission 0 batch ∷ []) self.old (D.view self.old.device).state (D.view self.new.device).state }
+        ensures device { KeepsDevice D.view Device (outcome result) self.old.device self.new.device }
 
         // The greatest request number stays, since this epoch has none.
         ensures last_request { last_request self.new.standing ≡ last_request self.old.standing }
@@ -64,13 +66,13 @@ impl<D: Disk, L: Law> Keeper<D, L> {
     /// without a word. Such a producer doubles it when it sends again.
     pub fn submit_as(&mut self, request: u64, batch: Batch) -> Result<Receipt, (KeeperError, Batch)>
         ensures answered { IfOk result (λ receipt. IsAnswered request batch receipt self.old self.new) }
-        ensures refused { IfErr result (λ e. IsRefused D.is_lawful D.state L.answers Memory Device (submit_as_refusal self.old request batch) e.0 self.old self.new) }
+        ensures refused { IfErr result (λ e. IsRefused D.view L.answers Memory Device (submit_as_refusal self.old request batch) e.0 self.old self.new) }
 
         // A request that is repeated is refused for these two causes alone.
         ensures repeated { is_new self.old.standing request ≡ false → IfErr result (λ e. (e.0 ≡ Broken) ⊎ (e.0 ≡ OldVersion)) }
         ensures back { IfErr result (λ e. e.1 ≡ batch) }
-        ensures crash { D.is_lawful self.old.device → CrashLeaves L.answers (submission request batch ∷ []) self.old (D.state self.old.device) (D.state self.new.device) }
-        ensures device { KeepsDevice D.capacity D.is_lawful D.failures Device (outcome result) self.old.device self.new.device }
+        ensures crash { (D.view self.old.device).lawful → CrashLeaves L.answers (submission request batch ∷ []) self.old (D.view self.old.device).state (D.view self.new.device).state }
+        ensures device { KeepsDevice D.view Device (outcome result) self.old.device self.new.device }
 
         // The greatest request number never falls, and then it is at least this one.
         ensures never_falls { last_request self.old.standing ≤ last_request self.new.standing }
@@ -97,10 +99,10 @@ impl<D: Disk, L: Law> Keeper<D, L> {
         ensures acknowledged { IfOk result (λ epoch. epoch ≡ last_epoch self.new.standing) }
         ensures submitted { IfOk result (λ _. self.new ≡ with_batch self.old self.new.device request batch) }
         ensures accepted { IfOk result (λ _. submit_refusal self.old batch ≡ None) }
-        ensures refused { IfErr result (λ e. IsRefused D.is_lawful D.state L.answers Memory Device (submit_refusal self.old batch) e.0 self.old self.new) }
+        ensures refused { IfErr result (λ e. IsRefused D.view L.answers Memory Device (submit_refusal self.old batch) e.0 self.old self.new) }
         ensures back { IfErr result (λ e. e.1 ≡ batch) }
-        ensures crash { D.is_lawful self.old.device → CrashLeaves L.answers (submission request batch ∷ []) self.old (D.state self.old.device) (D.state self.new.device) }
-        ensures device { KeepsDevice D.capacity D.is_lawful D.failures Device (outcome result) self.old.device self.new.device }
+        ensures crash { (D.view self.old.device).lawful → CrashLeaves L.answers (submission request batch ∷ []) self.old (D.view self.old.device).state (D.view self.new.device).state }
+        ensures device { KeepsDevice D.view Device (outcome result) self.old.device self.new.device }
         ensures last_request { OnOk result (last_request self.new.standing ≡ max (last_request self.old.standing) request) }
     {
         laws::told_in_parts();

@@ -5,16 +5,17 @@ ghost use Rattle.td_gate.specs.CrashSafe.{CrashSafe, Unchanged};
 ghost use Rattle.td_machine.specs.Steps.{accepts};
 ghost use Rattle.td_journal.specs.Cell.{is_batch};
 ghost use Rattle.td_journal.specs.Numbers.{greatest};
-ghost use Rattle.td_group.specs.Groups.{AllFew, AreBatches, AreFresh, may_follow};
-ghost use Rattle.td_standing.specs.Standing.{last_epoch, last_request};
-ghost use Rattle.td_standing.specs.Told.{inputs_of};
-ghost use Rattle.td_standing.specs.Advanced.{SinceAdvance, AdvancesSince};
+ghost use Rattle.td_store.specs.group.Groups.{AllFew, AreBatches, AreFresh, may_follow};
+ghost use Rattle.td_store.specs.standing.Standing.{last_epoch, last_request};
+ghost use Rattle.td_store.specs.standing.Told.{inputs_of};
+ghost use Rattle.td_store.specs.standing.Advanced.{SinceAdvance, AdvancesSince};
 ghost use Rattle.td_keeper.specs.Keeping.{with_epochs, KeepsSince};
 ghost use Rattle.td_keeper.specs.Grouped.{AllOrNone};
 ghost use Rattle.td_keeper.specs.Refused.{has_number, all_accepted, all_few, group_refusal};
-ghost use Rattle.td_standing.specs.declared.error.KeeperError.TheVariants.{Memory, Device};
+ghost use Rattle.td_store.specs.declared.standing.error.KeeperError.TheVariants.{Memory, Device};
 ghost use Rattle.td_keeper.specs.declared.group.GroupError.TheVariants.{Keeper as ByKeeper};
-ghost use Rattle.td_keeper.specs.Calls.{IsAllSubmitted, IsRefused, CrashLeaves, KeepsDevice, outcome};
+ghost use Rattle.td_disk.specs.Calls.{KeepsDevice};
+ghost use Rattle.td_keeper.specs.Calls.{IsAllSubmitted, IsRefused, CrashLeaves, outcome};
 
 use crate::group::{Group, GroupError};
 use crate::keeper::Keeper;
@@ -24,11 +25,11 @@ use crate::submit::NUMBERED;
 use crate::watch::{publish, words_at};
 use td_calls::Law;
 use td_disk::Disk;
-use td_group::{NextCell, submit_group};
 use td_journal::{JournalError, Submitted, greatest_request};
 use td_plan::Plan;
 use td_stamp::{Batch, EPOCHS_END};
-use td_standing::{KeeperError, laws, ring_of};
+use td_store::group::{NextCell, submit_group};
+use td_store::standing::{KeeperError, laws, ring_of};
 
 impl<D: Disk, L: Law> Keeper<D, L> {
     /// Puts a group of batches on the journal at once, as the next epochs in this order, and answers the number of the first: from
@@ -45,14 +46,14 @@ impl<D: Disk, L: Law> Keeper<D, L> {
     /// none.
     pub fn submit_all(&mut self, group: Group) -> Result<u64, (GroupError, Group)>
         ensures submitted { IfOk result (λ first. IsAllSubmitted group first (last_epoch self.new.standing + 1) self.old self.new) }
-        ensures refused { IfErr result (λ e. IsRefused D.is_lawful D.state L.answers (ByKeeper Memory) (ByKeeper Device) (group_refusal self.old group) e.0 self.old self.new) }
+        ensures refused { IfErr result (λ e. IsRefused D.view L.answers (ByKeeper Memory) (ByKeeper Device) (group_refusal self.old group) e.0 self.old self.new) }
         ensures back { IfErr result (λ e. e.1 ≡ group) }
 
         // At every moment of the call a crash leaves what the disk stood for, or that with the whole group.
-        ensures all_or_none { D.is_lawful self.old.device → self.old.broken ≡ false
-            → AllOrNone self.old.plan self.old.standing group (D.state self.old.device).moment (D.state self.new.device) }
-        ensures crash { D.is_lawful self.old.device → CrashLeaves L.answers group self.old (D.state self.old.device) (D.state self.new.device) }
-        ensures device { KeepsDevice D.capacity D.is_lawful D.failures (ByKeeper Device) (outcome result) self.old.device self.new.device }
+        ensures all_or_none { (D.view self.old.device).lawful → self.old.broken ≡ false
+            → AllOrNone self.old.plan self.old.standing group (D.view self.old.device).state.moment (D.view self.new.device).state }
+        ensures crash { (D.view self.old.device).lawful → CrashLeaves L.answers group self.old (D.view self.old.device).state (D.view self.new.device).state }
+        ensures device { KeepsDevice D.view (ByKeeper Device) (outcome result) self.old.device self.new.device }
 
         // The greatest request number is raised by those of the group.
         ensures last_request { OnOk result (last_request self.new.standing ≡ greatest (last_request self.old.standing) group) }
@@ -93,25 +94,25 @@ impl<D: Disk, L: Law> Keeper<D, L> {
         ensures back { IfErr result (λ e. e.1 ≡ group) }
         ensures unchanged { IfErr result (λ e. (self.new ≡ self.old) ⊎ ((e.0 ≡ Memory) × (self.new ≡ record self.old { device = self.new.device }))
             ⊎ ((e.0 ≡ Device) × (self.new ≡ record self.old { device = self.new.device; broken = true }))) }
-        ensures device { IfErr result (λ e. e.0 ≡ Device → Rises (D.failures self.old.device) (D.failures self.new.device)) }
+        ensures device { IfErr result (λ e. e.0 ≡ Device → Rises (D.view self.old.device).failures (D.view self.new.device).failures) }
         ensures broken { IfErr result (λ e. e.0 ≡ Device → self.new.broken ≡ true) }
-        ensures counted { D.failures self.old.device ≤ D.failures self.new.device }
-        ensures stays { OnOk result (D.failures self.new.device ≡ D.failures self.old.device) }
-        ensures stays_back { IfErr result (λ e. (e.0 ≡ Device) ⊎ (D.failures self.new.device ≡ D.failures self.old.device)) }
-        ensures size { D.capacity self.new.device ≡ D.capacity self.old.device }
-        ensures lawful { D.is_lawful self.old.device ↔ D.is_lawful self.new.device }
-        ensures unwritten { IfErr result (λ e. e.0 ≡ Memory → D.is_lawful self.old.device
-            → CrashSafe Unchanged (D.state self.old.device) (D.state self.new.device)) }
-        ensures later { D.is_lawful self.old.device → (D.state self.old.device).moment ≤ (D.state self.new.device).moment }
-        ensures all_or_none { D.is_lawful self.old.device → self.old.broken ≡ false
-            → AllOrNone self.old.plan self.old.standing group.items (D.state self.old.device).moment (D.state self.new.device) }
-        ensures images { D.is_lawful self.old.device → self.old.broken ≡ false
-            → SinceAdvance L.answers self.old.plan self.old.standing group.items (last_epoch self.old.standing) (D.state self.old.device).moment (D.state self.new.device) }
-        ensures further { D.is_lawful self.old.device → self.old.broken ≡ false
-            → AdvancesSince L.answers self.old.plan self.old.standing group.items (last_epoch self.old.standing) (D.state self.old.device) (D.state self.new.device) }
-        ensures short { D.is_lawful self.old.device → KeepsSince self.old.plan self.old.base (D.state self.old.device) (D.state self.new.device) }
-        ensures nothing { IfErr result (λ e. (e.0 ≡ Device) ⊎ (D.is_lawful self.old.device → self.old.broken ≡ false
-            → AdvancesSince L.answers self.old.plan self.old.standing [] (last_epoch self.old.standing) (D.state self.old.device) (D.state self.new.device))) }
+        ensures counted { (D.view self.old.device).failures ≤ (D.view self.new.device).failures }
+        ensures stays { OnOk result ((D.view self.new.device).failures ≡ (D.view self.old.device).failures) }
+        ensures stays_back { IfErr result (λ e. (e.0 ≡ Device) ⊎ ((D.view self.new.device).failures ≡ (D.view self.old.device).failures)) }
+        ensures size { (D.view self.new.device).capacity ≡ (D.view self.old.device).capacity }
+        ensures lawful { (D.view self.old.device).lawful ↔ (D.view self.new.device).lawful }
+        ensures unwritten { IfErr result (λ e. e.0 ≡ Memory → (D.view self.old.device).lawful
+            → CrashSafe Unchanged (D.view self.old.device).state (D.view self.new.device).state) }
+        ensures later { (D.view self.old.device).lawful → (D.view self.old.device).state.moment ≤ (D.view self.new.device).state.moment }
+        ensures all_or_none { (D.view self.old.device).lawful → self.old.broken ≡ false
+            → AllOrNone self.old.plan self.old.standing group.items (D.view self.old.device).state.moment (D.view self.new.device).state }
+        ensures images { (D.view self.old.device).lawful → self.old.broken ≡ false
+            → SinceAdvance L.answers self.old.plan self.old.standing group.items (last_epoch self.old.standing) (D.view self.old.device).state.moment (D.view self.new.device).state }
+        ensures further { (D.view self.old.device).lawful → self.old.broken ≡ false
+            → AdvancesSince L.answers self.old.plan self.old.standing group.items (last_epoch self.old.standing) (D.view self.old.device).state (D.view self.new.device).state }
+        ensures short { (D.view self.old.device).lawful → KeepsSince self.old.plan self.old.base (D.view self.old.device).state (D.view self.new.device).state }
+        ensures nothing { IfErr result (λ e. (e.0 ≡ Device) ⊎ ((D.view self.old.device).lawful → self.old.broken ≡ false
+            → AdvancesSince L.answers self.old.plan self.old.standing [] (last_epoch self.old.standing) (D.view self.old.device).state (D.view self.new.device).state)) }
         ensures last_request { OnOk result (last_request self.new.standing ≡ greatest (last_request self.old.standing) group.items) }
     {
         laws::told_in_parts();

@@ -1,20 +1,20 @@
 //! Raising a disk to the version of the format that has request numbers.
 ghost use Rattle.std.specs.Prelude.{◌≡◌, ◌⊎◌, ◌<◌, ◌≤◌, [], false, true, None, Some, Ok, IfErr, IsErrOf, List, ℕ};
 ghost use Rattle.td_head.specs.Head.{raised};
-ghost use Rattle.td_standing.specs.Standing.{last_epoch};
-ghost use Rattle.td_standing.specs.Told.{Told};
-ghost use Rattle.td_standing.specs.Read.{Stood};
-ghost use Rattle.td_standing.specs.Advanced.{AdvancesSince};
+ghost use Rattle.td_store.specs.standing.Standing.{last_epoch};
+ghost use Rattle.td_store.specs.standing.Told.{Told};
+ghost use Rattle.td_store.specs.standing.Read.{Stood};
+ghost use Rattle.td_store.specs.standing.Advanced.{AdvancesSince};
 ghost use Rattle.td_keeper.specs.Refused.{upgrade_refusal};
-ghost use Rattle.td_standing.specs.declared.error.KeeperError.TheVariants.{Memory, Device};
-ghost use Rattle.td_keeper.specs.Calls.{KeepsDevice};
+ghost use Rattle.td_store.specs.declared.standing.error.KeeperError.TheVariants.{Memory, Device};
+ghost use Rattle.td_disk.specs.Calls.{KeepsDevice};
 
 use crate::keeper::Keeper;
 use crate::submit::NUMBERED;
 use td_calls::Law;
 use td_disk::Disk;
 use td_head::HeadError;
-use td_standing::{KeeperError, laws, raise_head};
+use td_store::standing::{KeeperError, laws, raise_head};
 
 impl<D: Disk, L: Law> Keeper<D, L> {
     /// Raises the disk to version 2 of the format, which has request numbers, and answers whether it was of version 1 before;
@@ -31,18 +31,18 @@ impl<D: Disk, L: Law> Keeper<D, L> {
             ⊎ ((upgrade_refusal self.old ≡ None) × (self.old.head.version < 2) × ((e ≡ Memory) ⊎ (e ≡ Device)))) }
         ensures unchanged { IfErr result (λ e. (e ≡ Device) ⊎ (self.new ≡ self.old)) }
         ensures broken { IsErrOf result Device → self.new ≡ record self.old { device = self.new.device; broken = true } }
-        ensures device { KeepsDevice D.capacity D.is_lawful D.failures Device result self.old.device self.new.device }
+        ensures device { KeepsDevice D.view Device result self.old.device self.new.device }
 
         // What a crash may leave after the call is among what it may leave since the start.
-        ensures later { D.is_lawful self.old.device → self.old.broken ≡ false → (D.state self.old.device).moment ≤ (D.state self.new.device).moment }
+        ensures later { (D.view self.old.device).lawful → self.old.broken ≡ false → (D.view self.old.device).state.moment ≤ (D.view self.new.device).state.moment }
 
         // In each image since the start of the call the disk tells what the keeper stands for, in version 1 or 2.
-        ensures told { D.is_lawful self.old.device → self.old.broken ≡ false → (c : List ℕ)
-            → (D.state self.new.device).since (D.state self.old.device).moment c → Told self.old.plan c (Stood self.old.standing) }
+        ensures told { (D.view self.old.device).lawful → self.old.broken ≡ false → (c : List ℕ)
+            → (D.view self.new.device).state.since (D.view self.old.device).state.moment c → Told self.old.plan c (Stood self.old.standing) }
 
         // Each image since an earlier moment was one by the start of the call, or the disk tells it there.
-        ensures further { D.is_lawful self.old.device → self.old.broken ≡ false
-            → AdvancesSince L.answers self.old.plan self.old.standing [] (last_epoch self.old.standing) (D.state self.old.device) (D.state self.new.device) }
+        ensures further { (D.view self.old.device).lawful → self.old.broken ≡ false
+            → AdvancesSince L.answers self.old.plan self.old.standing [] (last_epoch self.old.standing) (D.view self.old.device).state (D.view self.new.device).state }
     {
         laws::told_in_parts();
         laws::standings_advance::<L>();

@@ -4,7 +4,7 @@
 //! collected before it is acknowledged, so the three words are in order by the keeper's type.
 ghost use Rattle.std.specs.Prelude.{◌≡◌, ◌<◌, ◌≤◌, ◌^◌, Some, None, IfSome};
 ghost use Rattle.td_watch.specs.Words.{IsAtMost, KeepsOrder, acked};
-ghost use Rattle.td_standing.specs.Standing.{last_epoch, standing_from};
+ghost use Rattle.td_store.specs.standing.Standing.{last_epoch, standing_from};
 ghost use Rattle.td_keeper.specs.Keeping.{words_of, words_at, published, IsBelow};
 
 use crate::keeper::Keeper;

@@ -1,13 +1,14 @@
 //! Writing cuts.
 ghost use Rattle.std.specs.Prelude.{◌≡◌, ◌↔◌, ◌≤◌, [], false, true, length, take, drop, Some, None, Ok, IfOk};
 ghost use Rattle.std.specs.Prelude.{IfErr, IfSome, IfNone};
-ghost use Rattle.td_standing.specs.Standing.{last_request};
+ghost use Rattle.td_store.specs.standing.Standing.{last_request};
 ghost use Rattle.td_journal.specs.Numbers.{greatest};
-ghost use Rattle.td_standing.specs.Tells.{side_after};
+ghost use Rattle.td_store.specs.standing.Tells.{side_after};
 ghost use Rattle.td_keeper.specs.Keeping.{is_waiting};
 ghost use Rattle.td_keeper.specs.Refused.{waits_after};
-ghost use Rattle.td_standing.specs.declared.error.KeeperError.TheVariants.{Memory, Device, TooManyKeys};
-ghost use Rattle.td_keeper.specs.Calls.{IsWritten, IsUnwritten, CrashLeaves, KeepsDevice};
+ghost use Rattle.td_store.specs.declared.standing.error.KeeperError.TheVariants.{Memory, Device, TooManyKeys};
+ghost use Rattle.td_disk.specs.Calls.{KeepsDevice};
+ghost use Rattle.td_keeper.specs.Calls.{IsWritten, IsUnwritten, CrashLeaves};
 
 use crate::keeper::{Keeper, Taken};
 use crate::watch::{publish, words_at};
@@ -16,7 +17,7 @@ use td_calls::Law;
 use td_disk::Disk;
 use td_journal::Submitted;
 use td_slots::{Checkpoint, SlotsError};
-use td_standing::{KeeperError, laws, slots_of, write_states};
+use td_store::standing::{KeeperError, laws, slots_of, write_states};
 
 impl<D: Disk, L: Law> Keeper<D, L> {
     /// Writes the cut that waits into the slot beside the checkpoint, and answers its epoch; None where none waits. From then on
@@ -32,8 +33,8 @@ impl<D: Disk, L: Law> Keeper<D, L> {
         ensures refused { IfErr result (λ e. IsUnwritten e self.old self.new) }
 
         // At every moment of the call a crash leaves the old checkpoint or the new, and each epoch that was there.
-        ensures crash { D.is_lawful self.old.device → CrashLeaves L.answers [] self.old (D.state self.old.device) (D.state self.new.device) }
-        ensures device { KeepsDevice D.capacity D.is_lawful D.failures Device result self.old.device self.new.device }
+        ensures crash { (D.view self.old.device).lawful → CrashLeaves L.answers [] self.old (D.view self.old.device).state (D.view self.new.device).state }
+        ensures device { KeepsDevice D.view Device result self.old.device self.new.device }
 
         // The greatest request number stays.
         ensures last_request { last_request self.new.standing ≡ last_request self.old.standing }

@@ -43,7 +43,7 @@ impl ReadOnlyFile {
     /// open, and none who writes it. It refuses `File` where the file cannot be opened to be read, or measured, or it is no file but a
     /// folder, a device or a pipe, or somebody who writes it has locked it, and `Memory`.
     pub fn open_shared<R: Files<File = File>>(rt: &R, path: &str) -> Result<ReadOnlyFile, MakeError>
-        ensures failures { IfOk result (λ d. ⟦<ReadOnlyFile as Disk>⟧.failures d ≡ 0) }
+        ensures failures { IfOk result (λ d. (⟦<ReadOnlyFile as Disk>⟧.view d).failures ≡ 0) }
         ensures no_failed_sync { IfOk result (λ d. has_failed_sync d ≡ false) }
     {
         let file = open_file(rt, path)?;
@@ -54,7 +54,7 @@ impl ReadOnlyFile {
 
     /// The same without a lock, so that another process may write the file meanwhile.
     pub fn open_beside<R: Files<File = File>>(rt: &R, path: &str) -> Result<ReadOnlyFile, MakeError>
-        ensures failures { IfOk result (λ d. ⟦<ReadOnlyFile as Disk>⟧.failures d ≡ 0) }
+        ensures failures { IfOk result (λ d. (⟦<ReadOnlyFile as Disk>⟧.view d).failures ≡ 0) }
         ensures no_failed_sync { IfOk result (λ d. has_failed_sync d ≡ false) }
     {
         let file = open_file(rt, path)?;
@@ -145,13 +145,7 @@ fn takes_no_sync(kind: ErrorKind) -> bool
 impl Disk for ReadOnlyFile {
     ghost use Rattle.td_live.specs.Files.{FileReads, FileRests, FileTakesNoWrite};
 
-    ghost capacity = { λ f. f.size };
-
-    ghost failures = { λ f. f.failures };
-
-    ghost is_lawful = { λ _. ⊥ };
-
-    ghost state = { λ _. record { bytes = []; images = λ _. ⊥; since = λ _ _. ⊥; moment = 0 } };
+    ghost view = { λ f. record { capacity = f.size; failures = f.failures; lawful = ⊥; state = record { bytes = []; images = λ _. ⊥; since = λ _ _. ⊥; moment = 0 } } };
 
     ghost read_gives = { λ f _ _ result g. FileReads result f g };
 

@@ -18,7 +18,7 @@ impl Snapshot {
     /// A disk of these bytes, no call of which has failed.
     pub(crate) fn of(bytes: Vec<u8>) -> Snapshot
         ensures bytes { bytes_of result ≡ bytes.items }
-        ensures failures { ⟦<Snapshot as Disk>⟧.failures result ≡ 0 }
+        ensures failures { (⟦<Snapshot as Disk>⟧.view result).failures ≡ 0 }
     {
         Snapshot { bytes, failures: 0 }
     }
@@ -27,13 +27,7 @@ impl Snapshot {
 impl Disk for Snapshot {
     ghost use Rattle.td_live.specs.Snapshots.{at_rest, Rests, RefusesWrite};
 
-    ghost capacity = { λ s. length s.bytes.items };
-
-    ghost failures = { λ s. s.failures };
-
-    ghost is_lawful = { λ _. Unit {0} };
-
-    ghost state = { λ s. at_rest s.bytes.items };
+    ghost view = { λ s. record { capacity = length s.bytes.items; failures = s.failures; lawful = Unit {0}; state = at_rest s.bytes.items } };
 
     ghost read_gives = { λ s _ _ result t. Rests s.failures result s t };
 

@@ -26,14 +26,14 @@ const PIECE: usize = 1 << 16;
 /// Refusals: `Memory`, with the disk not called; `Device`, where a read failed; `Busy`, where no three readings one after another gave the
 /// same bytes.
 pub fn take_snapshot<D: Disk>(alloc: Global, disk: &mut D, most: u32) -> Result<Snapshot, LiveError>
-    ensures read { IsRead D.capacity D.is_lawful D.state disk.old disk.new }
-    ensures failures { CountsDevice result LiveError.Device (D.failures disk.old) (D.failures disk.new) }
-    ensures size { IfOk result (λ s. length (bytes_of s) ≡ D.capacity disk.old) }
+    ensures read { IsRead D.view disk.old disk.new }
+    ensures failures { CountsDevice result LiveError.Device (D.view disk.old).failures (D.view disk.new).failures }
+    ensures size { IfOk result (λ s. length (bytes_of s) ≡ (D.view disk.old).capacity) }
     // THREE READINGS GAVE THESE BYTES, whatever the disk is, and whoever writes it.
     ensures alike { IfOk result (λ s. LastReadings D.read_gives 3 (bytes_of s) disk.new) }
     // A disk that nobody else writes is as it reads, and is never busy.
-    ensures lawful { IfOk result (λ s. D.is_lawful disk.old → bytes_of s ≡ (D.state disk.old).bytes) }
-    ensures busy { IsErrOf result LiveError.Busy → D.is_lawful disk.old → most < 3 }
+    ensures lawful { IfOk result (λ s. (D.view disk.old).lawful → bytes_of s ≡ (D.view disk.old).state.bytes) }
+    ensures busy { IsErrOf result LiveError.Busy → (D.view disk.old).lawful → most < 3 }
 {
     let mut bytes = vec![in alloc; 0; disk.size() as usize]?;
     let mut piece = vec![in alloc; 0; PIECE]?;
@@ -52,13 +52,13 @@ fn read_until_alike<D: Disk>(
     piece: &mut [u8],
     most: u32,
 ) -> Result<bool, Fault>
-    requires size { length bytes.old ≡ D.capacity disk.old }
+    requires size { length bytes.old ≡ (D.view disk.old).capacity }
     requires some { 0 < length piece.old }
-    ensures read { IsRead D.capacity D.is_lawful D.state disk.old disk.new }
-    ensures failures { CountsFailures result (D.failures disk.old) (D.failures disk.new) }
+    ensures read { IsRead D.view disk.old disk.new }
+    ensures failures { CountsFailures result (D.view disk.old).failures (D.view disk.new).failures }
     ensures alike { IfOk result (λ is. is ≡ true → LastReadings D.read_gives 3 bytes.new disk.new) }
-    ensures lawful { IfOk result (λ is. is ≡ true → D.is_lawful disk.old → bytes.new ≡ (D.state disk.old).bytes) }
-    ensures busy { IfOk result (λ is. is ≡ false → D.is_lawful disk.old → most < 3) }
+    ensures lawful { IfOk result (λ is. is ≡ true → (D.view disk.old).lawful → bytes.new ≡ (D.view disk.old).state.bytes) }
+    ensures busy { IfOk result (λ is. is ≡ false → (D.view disk.old).lawful → most < 3) }
 {
     td_gate::laws::reads_in_turn::<D>();
     let mut alike = 0;
@@ -78,17 +78,17 @@ fn read_again<D: Disk>(
     piece: &mut [u8],
     alike: u32,
 ) -> Result<u32, Fault>
-    requires size { length bytes.old ≡ D.capacity disk.old }
+    requires size { length bytes.old ≡ (D.view disk.old).capacity }
     requires some { 0 < length piece.old }
     requires few { alike < 3 }
     requires before { LastReadings D.read_gives alike bytes.old disk.old }
-    ensures read { IsRead D.capacity D.is_lawful D.state disk.old disk.new }
-    ensures failures { CountsFailures result (D.failures disk.old) (D.failures disk.new) }
+    ensures read { IsRead D.view disk.old disk.new }
+    ensures failures { CountsFailures result (D.view disk.old).failures (D.view disk.new).failures }
     ensures alike { IfOk result (λ now. LastReadings D.read_gives now bytes.new disk.new) }
     ensures few { IfOk result (λ now. (0 < now) × (now ≤ 3)) }
-    ensures lawful { OnOk result (D.is_lawful disk.old → bytes.new ≡ (D.state disk.old).bytes) }
-    ensures one_more { IfOk result (λ now. D.is_lawful disk.old
-        → (0 < alike → bytes.old ≡ (D.state disk.old).bytes) → now ≡ alike + 1) }
+    ensures lawful { OnOk result ((D.view disk.old).lawful → bytes.new ≡ (D.view disk.old).state.bytes) }
+    ensures one_more { IfOk result (λ now. (D.view disk.old).lawful
+        → (0 < alike → bytes.old ≡ (D.view disk.old).state.bytes) → now ≡ alike + 1) }
 {
     let is_same = read_over(disk, bytes, piece)?;
     Ok(if is_same && alike > 0 { alike + 1 } else { 1 })
@@ -96,12 +96,12 @@ fn read_again<D: Disk>(
 
 /// Reads a disk over what was read of it before, piece by piece; whether it gave the same bytes again. Refusal: `Device`.
 fn read_over<D: Disk>(disk: &mut D, bytes: &mut [u8], piece: &mut [u8]) -> Result<bool, Fault>
-    requires size { length bytes.old ≡ D.capacity disk.old }
+    requires size { length bytes.old ≡ (D.view disk.old).capacity }
     requires some { 0 < length piece.old }
-    ensures read { IsRead D.capacity D.is_lawful D.state disk.old disk.new }
-    ensures failures { CountsFailures result (D.failures disk.old) (D.failures disk.new) }
+    ensures read { IsRead D.view disk.old disk.new }
+    ensures failures { CountsFailures result (D.view disk.old).failures (D.view disk.new).failures }
     ensures reading { OnOk result (IsReading D.read_gives bytes.new disk.old disk.new) }
-    ensures lawful { OnOk result (D.is_lawful disk.old → bytes.new ≡ (D.state disk.old).bytes) }
+    ensures lawful { OnOk result ((D.view disk.old).lawful → bytes.new ≡ (D.view disk.old).state.bytes) }
     ensures same { IfOk result (λ is. is ≡ true → bytes.new ≡ bytes.old) }
     ensures other { IfOk result (λ is. is ≡ false → bytes.new ≢ bytes.old) }
 {
@@ -125,12 +125,12 @@ fn read_piece<D: Disk>(
     bytes: &mut [u8],
     piece: &mut [u8],
 ) -> Result<bool, Fault>
-    requires room { at + length bytes.old ≤ D.capacity disk.old }
+    requires room { at + length bytes.old ≤ (D.view disk.old).capacity }
     requires len { length piece.old ≡ length bytes.old }
-    ensures read { IsRead D.capacity D.is_lawful D.state disk.old disk.new }
-    ensures failures { CountsFailures result (D.failures disk.old) (D.failures disk.new) }
+    ensures read { IsRead D.view disk.old disk.new }
+    ensures failures { CountsFailures result (D.view disk.old).failures (D.view disk.new).failures }
     ensures gives { OnOk result (D.read_gives disk.old at bytes.new (Ok tt) disk.new) }
-    ensures lawful { OnOk result (D.is_lawful disk.old → bytes.new ≡ bytes_at at (length bytes.old) (D.state disk.old).bytes) }
+    ensures lawful { OnOk result ((D.view disk.old).lawful → bytes.new ≡ bytes_at at (length bytes.old) (D.view disk.old).state.bytes) }
     ensures same { IfOk result (λ is. is ≡ true → bytes.new ≡ bytes.old) }
     ensures other { IfOk result (λ is. is ≡ false → bytes.new ≢ bytes.old) }
 {

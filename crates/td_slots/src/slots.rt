@@ -1,5 +1,6 @@
 // Two slots.
 ghost use Rattle.std.specs.Prelude.{◌≡◌, ◌⊎◌, ◌↔◌, ◌+◌, ◌-◌, ◌*◌, ◌^◌, ◌<◌, ◌≤◌, length, true, OnOk, IfOk, IfErr, IsErrOf};
+ghost use Rattle.td_disk.specs.Calls.{KeepsDevice};
 ghost use Rattle.td_disk.specs.Disk.{CountsDevice, IsDurable};
 ghost use Rattle.td_gate.specs.CrashSafe.{CrashSafe};
 ghost use Rattle.td_gate.specs.Reads.{IsRead};
@@ -87,26 +88,24 @@ impl Slots {
     ) -> Result<(), SlotsError>
         requires which { newest ≤ 1 }
         requires limit { self.now.k ≤ 1048576 }
-        requires room { self.now.at + 2 * (slot_len self.now.k + 1) ≤ D.capacity device.old }
+        requires room { self.now.at + 2 * (slot_len self.now.k + 1) ≤ (D.view device.old).capacity }
         requires small { epoch < 2 ^ 63 }
         ensures too_many { IsErrOf result SlotsError.TooManyKeys ↔ (self.now.k < length states.now) }
         ensures refusals { IfErr result (λ e.
             (e ≡ SlotsError.TooManyKeys) ⊎ (e ≡ SlotsError.Memory) ⊎ (e ≡ SlotsError.Device)) }
         ensures untouched { IfErr result (λ e. (e ≡ SlotsError.Device) ⊎ (device.new ≡ device.old)) }
-        ensures failures { CountsDevice result SlotsError.Device (D.failures device.old) (D.failures device.new) }
-        ensures size { D.capacity device.new ≡ D.capacity device.old }
-        ensures lawful { D.is_lawful device.old ↔ D.is_lawful device.new }
+        ensures device { KeepsDevice D.view SlotsError.Device result device.old device.new }
         ensures few { OnOk result (length states.now ≤ self.now.k) }
         ensures fits { OnOk result (Each FitsState states.now) }
         ensures fits_too { IsErrOf result SlotsError.Device → Each FitsState states.now }
 
         // Where it answers Ok or Device: each image since the start of the call, by the image before.
-        ensures crash_safe { D.is_lawful device.old → IsSettled (slot self.now (1 - newest)) (D.state device.old)
+        ensures crash_safe { (D.view device.old).lawful → IsSettled (slot self.now (1 - newest)) (D.view device.old).state
             → CrashSafe (Puts (slot self.now (1 - newest)) (slot_bytes self.now.k epoch last states.now))
-            (D.state device.old) (D.state device.new) }
-        ensures open { OnOk result (D.is_lawful device.old → IsSettled (slot self.now (1 - newest)) (D.state device.old)
-            → IsOpen (slot self.now (1 - newest)) (slot_bytes self.now.k epoch last states.now) (D.state device.new)) }
-        ensures durable { OnOk result (D.is_lawful device.old → IsDurable (D.state device.new)) }
+            (D.view device.old).state (D.view device.new).state }
+        ensures open { OnOk result ((D.view device.old).lawful → IsSettled (slot self.now (1 - newest)) (D.view device.old).state
+            → IsOpen (slot self.now (1 - newest)) (slot_bytes self.now.k epoch last states.now) (D.view device.new).state) }
+        ensures durable { OnOk result ((D.view device.old).lawful → IsDurable (D.view device.new).state) }
     {
         if (self.k as usize) < states.len() {
             return Err(SlotsError::TooManyKeys);
@@ -130,15 +129,15 @@ impl Slots {
     ) -> Result<Option<Vec<u8>>, SlotsError>
         requires which { side ≤ 1 }
         requires limit { self.now.k ≤ 1048576 }
-        requires room { self.now.at + 2 * (slot_len self.now.k + 1) ≤ D.capacity device.old }
-        ensures found { IfOk result (λ p. D.is_lawful device.old
-            → payload_of p ≡ opened (slot self.now side) (D.state device.old).bytes) }
+        requires room { self.now.at + 2 * (slot_len self.now.k + 1) ≤ (D.view device.old).capacity }
+        ensures found { IfOk result (λ p. (D.view device.old).lawful
+            → payload_of p ≡ opened (slot self.now side) (D.view device.old).state.bytes) }
         ensures valid { IfOk result (λ p. IsValid version folds.now self.now.k p) }
         ensures len { IfOk result (λ p. HasLength p (slot_len self.now.k)) }
-        ensures refused { IfErr result (λ e. (e ≡ SlotsError.Device) ⊎ ((e ≡ SlotsError.Memory) ⊎ (D.is_lawful device.old
-            → IsDamaged version folds.now self.now.k side (opened (slot self.now side) (D.state device.old).bytes) e))) }
-        ensures failures { CountsDevice result SlotsError.Device (D.failures device.old) (D.failures device.new) }
-        ensures read { IsRead D.capacity D.is_lawful D.state device.old device.new }
+        ensures refused { IfErr result (λ e. (e ≡ SlotsError.Device) ⊎ ((e ≡ SlotsError.Memory) ⊎ ((D.view device.old).lawful
+            → IsDamaged version folds.now self.now.k side (opened (slot self.now side) (D.view device.old).state.bytes) e))) }
+        ensures failures { CountsDevice result SlotsError.Device (D.view device.old).failures (D.view device.new).failures }
+        ensures read { IsRead D.view device.old device.new }
     {
         // The answer fits a u64, and so do the places of the slots.
         let _size = device.size();
@@ -167,17 +166,17 @@ impl Slots {
         folds: &[u8],
     ) -> Result<Checkpoint, SlotsError>
         requires limit { self.now.k ≤ 1048576 }
-        requires room { self.now.at + 2 * (slot_len self.now.k + 1) ≤ D.capacity device.old }
-        ensures told { IfOk result (λ c. D.is_lawful device.old
-            → newest version folds.now self.now (D.state device.old).bytes ≡ Told c) }
-        ensures refused { IfErr result (λ e. (e ≡ SlotsError.Device) ⊎ ((e ≡ SlotsError.Memory) ⊎ (D.is_lawful device.old
-            → newest version folds.now self.now (D.state device.old).bytes ≡ Refused e))) }
+        requires room { self.now.at + 2 * (slot_len self.now.k + 1) ≤ (D.view device.old).capacity }
+        ensures told { IfOk result (λ c. (D.view device.old).lawful
+            → newest version folds.now self.now (D.view device.old).state.bytes ≡ Told c) }
+        ensures refused { IfErr result (λ e. (e ≡ SlotsError.Device) ⊎ ((e ≡ SlotsError.Memory) ⊎ ((D.view device.old).lawful
+            → newest version folds.now self.now (D.view device.old).state.bytes ≡ Refused e))) }
         ensures slot { IfOk result (λ c. c.slot ≤ 1) }
         ensures small { IfOk result (λ c. c.epoch < 2 ^ 63) }
         ensures last { IfOk result (λ c. is_last version c.last ≡ true) }
         ensures states { IfOk result (λ c. are_states folds.now c.states ≡ true) }
-        ensures failures { CountsDevice result SlotsError.Device (D.failures device.old) (D.failures device.new) }
-        ensures read { IsRead D.capacity D.is_lawful D.state device.old device.new }
+        ensures failures { CountsDevice result SlotsError.Device (D.view device.old).failures (D.view device.new).failures }
+        ensures read { IsRead D.view device.old device.new }
     {
         td_gate::laws::reads_in_turn::<D>();
         let first = self.valid_payload(alloc, device, version, folds, 0)?;

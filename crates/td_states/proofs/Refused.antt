@@ -2,8 +2,8 @@
 use Rattle.std.proofs.Common.{◌≡◌, ◌⊎◌, inl, inr, refl, ◌∙◌, ap, Result, Ok, Err, IfErr}
 use Rattle.std.specs.Prelude.{OnOk}
 use Rattle.std.specs.Result.{IsErrAnd}
-use Rattle.td_standing.specs.declared.error.KeeperError.{KeeperError}
-use Rattle.td_standing.specs.declared.error.KeeperError.TheVariants as keeper
+use Rattle.td_store.specs.declared.standing.error.KeeperError.{KeeperError}
+use Rattle.td_store.specs.declared.standing.error.KeeperError.TheVariants as keeper
 use Rattle.td_console.specs.declared.faults.Fault.{Fault}
 use Rattle.td_console.specs.declared.faults.Fault.TheVariants.{Memory, Keeper}
 use Rattle.td_console.specs.Refusals.{keeper_fault}

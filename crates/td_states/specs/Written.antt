@@ -6,12 +6,12 @@ use Rattle.td_disk.specs.Disk.{DiskState, IsDurable, Rises}
 use Rattle.td_head.specs.declared.head.Head.{Head}
 use Rattle.td_slots.specs.declared.slots.Checkpoint.{Checkpoint}
 use Rattle.td_slots.specs.Slot.{are_states}
-use Rattle.td_standing.specs.declared.error.KeeperError.{KeeperError}
-use Rattle.td_standing.specs.declared.error.KeeperError.TheVariants.{Device, NotFormatted}
-use Rattle.td_standing.specs.Standing.{Standing, standing_from}
-use Rattle.td_standing.specs.Told.{Told, folds_of}
-use Rattle.td_standing.specs.Tells.{Keeps, TellsSince, checkpoint_of}
-use Rattle.td_standing.specs.Read.{Stood, Refused}
+use Rattle.td_store.specs.declared.standing.error.KeeperError.{KeeperError}
+use Rattle.td_store.specs.declared.standing.error.KeeperError.TheVariants.{Device, NotFormatted}
+use Rattle.td_store.specs.standing.Standing.{Standing, standing_from}
+use Rattle.td_store.specs.standing.Told.{Told, folds_of}
+use Rattle.td_store.specs.standing.Tells.{Keeps, TellsSince, checkpoint_of}
+use Rattle.td_store.specs.standing.Read.{Stood, Refused}
 use Rattle.td_console.specs.declared.faults.Fault.{Fault}
 use Rattle.td_console.specs.declared.faults.Fault.TheVariants.{Output, Memory, Keeper}
 use Rattle.td_states.specs.Lines.{checkpoint_text}

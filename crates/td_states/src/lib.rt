@@ -5,7 +5,7 @@
 //! [`load`] makes a disk that has it, and nothing else. A text of another origin is read as the checkpoint that it spells, or its first
 //! fault is told.
 //!
-//! It is a crate of its own beside the keeper, as `td_copy` is, by which it writes: it needs no hall, no law and no closures.
+//! It is a crate of its own beside the keeper, as `td_store` is, by which it writes: it needs no hall, no law and no closures.
 //!
 //! For example the text `kept 4` and `state 1 7 5 1` spells, for a plan whose vertex 1 is a fold, the states of epoch 4 in which fold 1 keeps
 //! 5 and 1 for the key 7.

@@ -1,16 +1,16 @@
 //! Making a disk of a checkpoint.
 ghost use Rattle.std.specs.Prelude.{◌≡◌, ◌↔◌, IfErr, OnOk};
-ghost use Rattle.td_standing.specs.Tells.{Keeps, first_head};
-ghost use Rattle.td_copy.specs.Refusals.{IsNotPut};
+ghost use Rattle.td_store.specs.standing.Tells.{Keeps, first_head};
+ghost use Rattle.td_store.specs.copy.Refusals.{IsNotPut};
 ghost use Rattle.td_states.specs.Written.{MayBeLoaded, loaded, LoadsOrNot};
 
 use std::alloc::Global;
-use td_copy::{CopyError, write_told};
 use td_disk::Disk;
 use td_head::{Head, Shape};
 use td_plan::Plan;
 use td_slots::Checkpoint;
-use td_standing::Recovered;
+use td_store::copy::{CopyError, write_told};
+use td_store::standing::Recovered;
 
 /// Makes a disk of this shape, which has no head, one that has a checkpoint, and no epochs after it. It begins with a sync.
 ///
@@ -25,12 +25,12 @@ pub fn load<D: Disk>(
     checkpoint: Checkpoint,
 ) -> Result<(), CopyError>
     requires { MayBeLoaded plan.now checkpoint }
-    ensures size { D.capacity device.new ≡ D.capacity device.old }
-    ensures lawful { D.is_lawful device.old ↔ D.is_lawful device.new }
+    ensures size { (D.view device.new).capacity ≡ (D.view device.old).capacity }
+    ensures lawful { (D.view device.old).lawful ↔ (D.view device.new).lawful }
     // AFTER OK A LAWFUL DISK TELLS THE CHECKPOINT, and no epochs, whatever a crash leaves of it.
-    ensures loaded { OnOk result (D.is_lawful device.old → Keeps plan.now (first_head shape) 0 (loaded checkpoint) (D.state device.new)) }
-    ensures refused { IfErr result (IsNotPut D.capacity D.failures D.is_lawful D.state shape (loaded checkpoint) device.old device.new) }
-    ensures stopped { D.is_lawful device.old → LoadsOrNot plan.now checkpoint (D.state device.old) (D.state device.new) }
+    ensures loaded { OnOk result ((D.view device.old).lawful → Keeps plan.now (first_head shape) 0 (loaded checkpoint) (D.view device.new).state) }
+    ensures refused { IfErr result (IsNotPut D.view shape (loaded checkpoint) device.old device.new) }
+    ensures stopped { (D.view device.old).lawful → LoadsOrNot plan.now checkpoint (D.view device.old).state (D.view device.new).state }
 {
     let told = Recovered {
         head: Head {

@@ -1,6 +1,6 @@
 //! Reading a checkpoint from a text.
 ghost use Rattle.std.specs.Prelude.{◌≡◌, ◌≢◌, ◌⊎◌, ◌^◌, ◌<◌, [], length, IfOk, IfErr, OnOk, IfSome};
-ghost use Rattle.td_standing.specs.Told.{folds_of};
+ghost use Rattle.td_store.specs.standing.Told.{folds_of};
 ghost use Rattle.td_states.specs.Spelled.{StatesText, StatesTextFault};
 ghost use Rattle.td_states.specs.Written.{MayBeLoaded};
 

@@ -16,7 +16,7 @@ use td_disk::Disk;
 use td_plan::Plan;
 use td_slots::Checkpoint;
 use td_stamp::{OrderedStates, State};
-use td_standing::count_device;
+use td_store::standing::count_device;
 
 /// Writes the checkpoint of a disk for a plan, as text that `read_states` takes: `kept E`, `last Q` where there is a request number, and a
 /// line `state VERTEX KEY A B` for each state in order. Its answer is how many epochs stand after the checkpoint. It begins with a sync, and
@@ -30,13 +30,13 @@ pub fn write_states<D: Disk, W: Sink>(
     plan: &Plan,
     writer: &mut W,
 ) -> Result<u64, Fault>
-    ensures size { D.capacity disk.new ≡ D.capacity disk.old }
-    ensures lawful { D.is_lawful disk.old ↔ D.is_lawful disk.new }
-    ensures written { IfOk result (λ epochs. WritesStates plan.now (W.contents writer.old) (W.contents writer.new) epochs (D.is_lawful disk.old) (D.state disk.new)) }
-    ensures refused { IfErr result (IsNotWritten plan.now (D.is_lawful disk.old) (D.state disk.new) (D.failures disk.old) (D.failures disk.new)) }
+    ensures size { (D.view disk.new).capacity ≡ (D.view disk.old).capacity }
+    ensures lawful { (D.view disk.old).lawful ↔ (D.view disk.new).lawful }
+    ensures written { IfOk result (λ epochs. WritesStates plan.now (W.contents writer.old) (W.contents writer.new) epochs (D.view disk.old).lawful (D.view disk.new).state) }
+    ensures refused { IfErr result (IsNotWritten plan.now (D.view disk.old).lawful (D.view disk.new).state (D.view disk.old).failures (D.view disk.new).failures) }
     ensures room { ((n : ℕ) → W.HasRoom writer.old n) → IfErr result (λ f. f ≢ Fault.Output) }
     ensures nothing { IfErr result (λ f. (f ≡ Fault.Output) ⊎ (writer.new ≡ writer.old)) }
-    ensures crash_safe { D.is_lawful disk.old → CrashSafe Unchanged (D.state disk.old) (D.state disk.new) }
+    ensures crash_safe { (D.view disk.old).lawful → CrashSafe Unchanged (D.view disk.old).state (D.view disk.new).state }
 {
     states_are_spelled();
     let counted = count_device(alloc, disk, plan)?;

@@ -7,7 +7,7 @@ use td_head::Shape;
 use td_keeper::Keeper;
 use td_keeper::laws::each_is_kept;
 use td_plan::Plan;
-use td_standing::{KeeperError, Part, laws};
+use td_store::standing::{KeeperError, Part, laws};
 
 const TOTAL: &str = "0 input\n1 fold 40 0\n2 output 1\n";
 

@@ -9,15 +9,15 @@ use Rattle.td_batch.specs.Meaning.{run}
 use Rattle.td_machine.specs.State.{HallState}
 use Rattle.td_machine.specs.Steps.{Event, Answer, Plays}
 use Rattle.td_machine.specs.Sound.{Confluence, NeverStuck, batches_of}
-use Rattle.td_disk.specs.Disk.{DiskState}
+use Rattle.td_disk.specs.Disk.{DiskView, DiskState}
 use Rattle.td_head.specs.declared.head.Head.{Head}
 use Rattle.td_slots.specs.Slot.{are_states}
 use Rattle.td_journal.specs.declared.submitted.Submitted.{Submitted}
-use Rattle.td_standing.specs.declared.error.KeeperError.{KeeperError}
-use Rattle.td_standing.specs.Standing.{Standing, with_more, nothing_told}
-use Rattle.td_standing.specs.Stops.{Begins, Advance, Stands}
-use Rattle.td_standing.specs.Told.{Told}
-use Rattle.td_standing.specs.Tells.{Tells}
+use Rattle.td_store.specs.declared.standing.error.KeeperError.{KeeperError}
+use Rattle.td_store.specs.standing.Standing.{Standing, with_more, nothing_told}
+use Rattle.td_store.specs.standing.Stops.{Begins, Advance, Stands}
+use Rattle.td_store.specs.standing.Told.{Told}
+use Rattle.td_store.specs.standing.Tells.{Tells}
 use Rattle.td_keeper.specs.declared.command.Command.{Command}
 use Rattle.td_keeper.specs.declared.command.Reply.{Reply}
 use Rattle.td_keeper.specs.Keeping.{Keeping, IsKeeping}
@@ -28,20 +28,20 @@ use Rattle.td_theorem.proofs.Numbers.{OneMore, Joined}
 use Rattle.td_theorem.proofs.Histories.{StatesJoin, OutsJoin}
 
 -- OF A DISK: what is read may be left, an image of now is one since any earlier moment, and since now there is no other
-pub record OfDisks {D : Type 0} (is_lawful : D → Type 0) (state : D → DiskState) : Type 0 where
-  pub reads_image : (d : D) → is_lawful d → (state d).images (state d).bytes
-  pub counts_now : (d : D) (t : ℕ) (c : List ℕ) → is_lawful d → t ≤ (state d).moment → (state d).images c → (state d).since t c
-  pub only_now : (d : D) (c : List ℕ) → is_lawful d → (state d).since (state d).moment c → (state d).images c
+pub record OfDisks {D : Type 0} (view : D → DiskView) : Type 0 where
+  pub reads_image : (d : D) → (view d).lawful → (view d).state.images (view d).state.bytes
+  pub counts_now : (d : D) (t : ℕ) (c : List ℕ) → (view d).lawful → t ≤ (view d).state.moment → (view d).state.images c → (view d).state.since t c
+  pub only_now : (d : D) (c : List ℕ) → (view d).lawful → (view d).state.since (view d).state.moment c → (view d).state.images c
 
 -- OF KEEPERS
-pub record OfKeepers {D : Type 0} (is_lawful : D → Type 0) (state : D → DiskState) (failures : D → ℕ) (answers : Answers) : Type 0 where
-  pub rest : RestLaw is_lawful state failures answers
+pub record OfKeepers {D : Type 0} (view : D → DiskView) (answers : Answers) : Type 0 where
+  pub rest : RestLaw view answers
   pub acknowledges : (commands : List Command) (replies : List Reply) (old new : Keeping D) → IsKeeping old answers
-      → Driven is_lawful state failures answers commands replies old new → Acknowledges answers commands replies old new
-  pub advances : (commands : List Command) (replies : List Reply) (old new : Keeping D) → IsKeeping old answers → is_lawful old.device → old.broken ≡ false
-      → Driven is_lawful state failures answers commands replies old new → Advances is_lawful state failures answers old new (submitted_by commands replies)
+      → Driven view answers commands replies old new → Acknowledges answers commands replies old new
+  pub advances : (commands : List Command) (replies : List Reply) (old new : Keeping D) → IsKeeping old answers → (view old.device).lawful → old.broken ≡ false
+      → Driven view answers commands replies old new → Advances view answers old new (submitted_by commands replies)
   pub hands : (commands : List Command) (replies : List Reply) (old new : Keeping D) → IsKeeping old answers
-      → Driven is_lawful state failures answers commands replies old new → HandsOn answers old new (submitted_by commands replies) (handed_out replies)
+      → Driven view answers commands replies old new → HandsOn answers old new (submitted_by commands replies) (handed_out replies)
 
 -- OF STANDINGS, and of what images tell
 pub record OfStandings (answers : Answers) : Type 0 where

@@ -3,11 +3,11 @@ use Rattle.std.proofs.Common.{◌≡◌, ◌⊎◌, ⊎_elim, ℕ, Bool, true, f
 use Rattle.std.specs.Prelude.{Option, Some, None, if◌then◌else◌}
 use Rattle.td_stamp.specs.declared.values.Entry.{Entry}
 use Rattle.td_calls.specs.Answers.{Answers}
-use Rattle.td_disk.specs.Disk.{DiskState}
+use Rattle.td_disk.specs.Disk.{DiskView, DiskState}
 use Rattle.td_journal.specs.declared.submitted.Submitted.{Submitted as AnySubmitted}
-use Rattle.td_standing.specs.Standing.{submission}
-use Rattle.td_standing.specs.declared.error.KeeperError.{KeeperError}
-use Rattle.td_standing.specs.declared.error.KeeperError.TheVariants as error
+use Rattle.td_store.specs.standing.Standing.{submission}
+use Rattle.td_store.specs.declared.standing.error.KeeperError.{KeeperError}
+use Rattle.td_store.specs.declared.standing.error.KeeperError.TheVariants as error
 use Rattle.td_keeper.specs.declared.group.GroupError.{GroupError}
 use Rattle.td_keeper.specs.declared.group.GroupError.TheVariants.{Keeper}
 use Rattle.td_keeper.specs.declared.command.Command.{Command}
@@ -19,9 +19,9 @@ use Rattle.td_keeper.specs.Refused.{submit_refusal, submit_as_refusal, group_ref
 use Rattle.td_keeper.specs.Driven.{is_device, is_of_device, may_write, submitted_in, submitted_by, IsNotSubmitted, Submits, SubmitsAs, SubmitsAll, Writes, ClosesFree, Obeys, Driven, Rests}
 
 -- the law of commands that do not write, as it is handed in
-abbrev pub RestLaw : {D : Type 0} → (D → Type 0) → (D → DiskState) → (D → ℕ) → Answers → Type 0
-RestLaw {D = D} is_lawful state failures answers = (command : Command) (reply : Reply) (old new : Keeping D) → may_write command ≡ false
-    → Obeys is_lawful state failures answers command reply old new → Rests old new
+abbrev pub RestLaw : {D : Type 0} → (D → DiskView) → Answers → Type 0
+RestLaw {D = D} view answers = (command : Command) (reply : Reply) (old new : Keeping D) → may_write command ≡ false
+    → Obeys view answers command reply old new → Rests old new
 
 -- what such a keeper refuses all that may write as
 submit_broken : {D : Type 0} (k : Keeping D) (batch : List Entry) → k.broken ≡ true → submit_refusal k batch ≡ Some error.Broken
@@ -58,14 +58,14 @@ record StaysBroken {D : Type 0} (old new : Keeping D) : Type 0 where
 same : {D : Type 0} (old new : Keeping D) → new ≡ old → old.broken ≡ true → StaysBroken old new
 same old new is broken = record { device = ap (λ k. k.device) is; broken = ap (λ k. k.broken) is ∙ broken }
 
-module _ {D : Type 0} (is_lawful : D → Type 0) (state : D → DiskState) (failures : D → ℕ) (answers : Answers) (rest : RestLaw is_lawful state failures answers) where
-  rests : (command : Command) (reply : Reply) (old new : Keeping D) → may_write command ≡ false → Obeys is_lawful state failures answers command reply old new → old.broken ≡ true → StaysBroken old new
+module _ {D : Type 0} (view : D → DiskView) (answers : Answers) (rest : RestLaw view answers) where
+  rests : (command : Command) (reply : Reply) (old new : Keeping D) → may_write command ≡ false → Obeys view answers command reply old new → old.broken ≡ true → StaysBroken old new
   rests command reply old new quiet obeys is =
       let r = rest command reply old new quiet obeys in
       record { device = r.device; broken = r.broken ∙ is }
 
   refused : (refusal : Option KeeperError) (x : List AnySubmitted) (batch : List Entry) (e : KeeperError) (back : Option (List Entry)) (old new : Keeping D)
-      → refusal ≡ Some error.Broken → IsNotSubmitted is_lawful state failures answers refusal batch e back old new → old.broken ≡ true
+      → refusal ≡ Some error.Broken → IsNotSubmitted view answers refusal batch e back old new → old.broken ≡ true
       → StaysBroken old new × ((if is_device e then x else []) ≡ [])
   refused refusal x batch e back old new broken r is =
       let named : e ≡ error.Broken = is_broken refusal error.Broken e ((e ≡ error.Memory) ⊎ (e ≡ error.Device)) broken r.cause in
@@ -75,20 +75,20 @@ module _ {D : Type 0} (is_lawful : D → Type 0) (state : D → DiskState) (fail
         none,
       )
 
-  submits : (batch : List Entry) (reply : Reply) (old new : Keeping D) → Submits is_lawful state failures answers batch reply old new → old.broken ≡ true
+  submits : (batch : List Entry) (reply : Reply) (old new : Keeping D) → Submits view answers batch reply old new → old.broken ≡ true
       → StaysBroken old new × (submitted_in (Submit batch) reply ≡ [])
   submits batch (Submitted n) old new r is = absurd (none_is_broken (submit_refusal old batch) error.Broken (submit_broken old batch is) r.accepted)
   submits batch (Refused e back) old new r is = refused (submit_refusal old batch) (submission 0 batch ∷ []) batch e back old new (submit_broken old batch is) r is
   submits batch other old new r is = absurd r
 
-  submits_as : (request : ℕ) (batch : List Entry) (reply : Reply) (old new : Keeping D) → SubmitsAs is_lawful state failures answers request batch reply old new → old.broken ≡ true
+  submits_as : (request : ℕ) (batch : List Entry) (reply : Reply) (old new : Keeping D) → SubmitsAs view answers request batch reply old new → old.broken ≡ true
       → StaysBroken old new × (submitted_in (SubmitAs request batch) reply ≡ [])
   submits_as request batch (SubmittedAs n) old new r is = absurd (none_is_broken (submit_as_refusal old request batch) error.Broken (submit_as_broken old request batch is) r.accepted)
   submits_as request batch (Refused e back) old new r is =
       refused (submit_as_refusal old request batch) (submission request batch ∷ []) batch e back old new (submit_as_broken old request batch is) r.refused is
   submits_as request batch other old new r is = absurd r
 
-  submits_all : (group : List AnySubmitted) (reply : Reply) (old new : Keeping D) → SubmitsAll is_lawful state failures answers group reply old new → old.broken ≡ true
+  submits_all : (group : List AnySubmitted) (reply : Reply) (old new : Keeping D) → SubmitsAll view answers group reply old new → old.broken ≡ true
       → StaysBroken old new × (submitted_in (SubmitAll group) reply ≡ [])
   submits_all group (SubmittedAll n m) old new r is = absurd (none_is_broken (group_refusal old group) (Keeper error.Broken) (group_broken old group is) r.accepted)
   submits_all group (RefusedAll e back) old new r is =
@@ -100,7 +100,7 @@ module _ {D : Type 0} (is_lawful : D → Type 0) (state : D → DiskState) (fail
       )
   submits_all group other old new r is = absurd r
 
-  writes : (reply : Reply) (old new : Keeping D) → Writes is_lawful state failures answers reply old new → old.broken ≡ true → StaysBroken old new
+  writes : (reply : Reply) (old new : Keeping D) → Writes view answers reply old new → old.broken ≡ true → StaysBroken old new
   writes (Written w) old new r is = absurd (none_is_broken (write_refusal old) error.Broken (write_broken old is) r.accepted)
   writes (Refused e back) old new r is =
       let named : e ≡ error.Broken = is_broken (write_refusal old) error.Broken e ((e ≡ error.Memory) ⊎ (e ≡ error.Device)) (write_broken old is) r.cause in
@@ -108,14 +108,14 @@ module _ {D : Type 0} (is_lawful : D → Type 0) (state : D → DiskState) (fail
       (λ other. ⊎_elim (λ failed. absurd (let no : error.Broken ≡ error.Device = sym named ∙ failed.0 in cc)) (λ old_is. same old new old_is is) other) r.unchanged
   writes other old new r is = absurd r
 
-  closes : (most : ℕ) (reply : Reply) (old new : Keeping D) → ClosesFree is_lawful state failures answers most reply old new → old.broken ≡ true → StaysBroken old new
+  closes : (most : ℕ) (reply : Reply) (old new : Keeping D) → ClosesFree view answers most reply old new → old.broken ≡ true → StaysBroken old new
   closes most Closed old new r is = absurd (none_is_broken (close_refusal old) error.Broken (close_broken old is) r.accepted)
   closes most (Refused e back) old new r is =
       let named : e ≡ error.Broken = is_broken (close_refusal old) error.Broken e (e ≡ error.Device) (close_broken old is) r.cause in
       ⊎_elim (λ old_is. same old new old_is is) (λ failed. absurd (let no : error.Broken ≡ error.Device = sym named ∙ failed.0 in cc)) r.unchanged
   closes most other old new r is = absurd r
 
-  one : (command : Command) (reply : Reply) (old new : Keeping D) → Obeys is_lawful state failures answers command reply old new → old.broken ≡ true
+  one : (command : Command) (reply : Reply) (old new : Keeping D) → Obeys view answers command reply old new → old.broken ≡ true
       → StaysBroken old new × (submitted_in command reply ≡ [])
   one (Submit batch) reply old new obeys is = submits batch reply old new obeys.0 is
   one (SubmitAs request batch) reply old new obeys is = submits_as request batch reply old new obeys.0 is
@@ -131,7 +131,7 @@ module _ {D : Type 0} (is_lawful : D → Type 0) (state : D → DiskState) (fail
   one (CloseFree most) reply old new obeys is = (closes most reply old new obeys.0 is, refl)
 
   -- A BROKEN KEEPER: its device is as it was, nothing is submitted, and it stays broken
-  pub broken_stays : (commands : List Command) (replies : List Reply) (old new : Keeping D) → Driven is_lawful state failures answers commands replies old new → old.broken ≡ true
+  pub broken_stays : (commands : List Command) (replies : List Reply) (old new : Keeping D) → Driven view answers commands replies old new → old.broken ≡ true
       → (new.device ≡ old.device) × (submitted_by commands replies ≡ []) × (new.broken ≡ true)
   broken_stays [] [] old new e is = (ap (λ k. k.device) e, refl, ap (λ k. k.broken) e ∙ is)
   broken_stays [] (r ∷ rs) old new none is = absurd none

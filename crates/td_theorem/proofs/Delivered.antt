@@ -9,13 +9,13 @@ use Rattle.td_stamp.specs.declared.values.Output.{Output}
 use Rattle.td_plan.specs.Lines.{Line}
 use Rattle.td_calls.specs.Answers.{Answers}
 use Rattle.td_batch.specs.Meaning.{numbered}
-use Rattle.td_disk.specs.Disk.{DiskState}
+use Rattle.td_disk.specs.Disk.{DiskView, DiskState}
 use Rattle.td_journal.specs.declared.submitted.Submitted.{Submitted}
-use Rattle.td_standing.specs.declared.error.KeeperError.{KeeperError}
-use Rattle.td_standing.specs.Standing.{Standing, last_epoch, last_request, batches_of}
-use Rattle.td_standing.specs.Stops.{Stands}
-use Rattle.td_standing.specs.Told.{Told}
-use Rattle.td_standing.specs.Advanced.{states_by}
+use Rattle.td_store.specs.declared.standing.error.KeeperError.{KeeperError}
+use Rattle.td_store.specs.standing.Standing.{Standing, last_epoch, last_request, batches_of}
+use Rattle.td_store.specs.standing.Stops.{Stands}
+use Rattle.td_store.specs.standing.Told.{Told}
+use Rattle.td_store.specs.standing.Advanced.{states_by}
 use Rattle.td_questions.specs.declared.question.Wanted.{Wanted as Of}
 use Rattle.td_keeper.specs.declared.command.Command.{Command}
 use Rattle.td_keeper.specs.declared.command.Command.TheVariants.{Answer}
@@ -31,7 +31,7 @@ use Rattle.td_feed.specs.Fed.{TellsHistory, EachTellsHistory, TellsOnward}
 use Rattle.td_feed.specs.Held.{seen_after}
 use Rattle.td_feed.specs.Noted.{Aside, note_line}
 use Rattle.td_feed.specs.Said.{Saying, replied, aside, full, answered, copied, not_copied, commands_in, replies_in, out_lines, full_line, copied_line, not_copied_line, request_in, line_of, answer_text, lines_of, Wanted, SaysBy, SaysFrom, SaysFed}
-use Rattle.td_feed.specs.Session.{limit_of, wanted_by}
+use Rattle.td_feed.specs.Session.{wanted_by, wanted_of, script_by}
 use Rattle.td_theorem.specs.Life.{TellsAs}
 use Rattle.td_theorem.specs.Feeds.{found_by}
 use Rattle.td_theorem.specs.Held.{Delivery, seen_by, seen_in_all, HoldsBack, IsPart, WritesAgain, IsDelivery, Deliveries}
@@ -64,15 +64,15 @@ behind marks line more all =
     All-weaker (λ out. IsPart (out_lines marks out) (lines_of marks more)) (λ out. IsPart (out_lines marks out) (line ++ lines_of marks more))
     (λ out is. part_then (out_lines marks out) line (lines_of marks more) is) (handed_out (replies_in more)) all
 
-module _ {D : Type 0} (is_lawful : D → Type 0) (state : D → DiskState) (failures : D → ℕ) (answers : Answers) where
+module _ {D : Type 0} (view : D → DiskView) (answers : Answers) where
   -- a question hands out no epoch
-  none_asked : (vertex : ℕ) (wanted : Of) (reply : Reply) (old new : Keeping D) → Obeys is_lawful state failures answers (Answer vertex wanted) reply old new → handed_in reply ≡ []
+  none_asked : (vertex : ℕ) (wanted : Of) (reply : Reply) (old new : Keeping D) → Obeys view answers (Answer vertex wanted) reply old new → handed_in reply ≡ []
   none_asked vertex wanted (Answered epoch entries) old new asks = refl
   none_asked vertex wanted (Refused error back) old new asks = refl
   none_asked vertex wanted other old new asks = absurd asks
 
   -- and those of all epochs that were handed out are parts of all lines
-  pub all_written : (marks : Bool) (sayings : List Saying) (old new : Keeping D) → Driven is_lawful state failures answers (commands_in sayings) (replies_in sayings) old new
+  pub all_written : (marks : Bool) (sayings : List Saying) (old new : Keeping D) → Driven view answers (commands_in sayings) (replies_in sayings) old new
       → All (λ out. IsPart (out_lines marks out) (lines_of marks sayings)) (handed_out (replies_in sayings))
   all_written marks [] old new driven = All-nil (λ out. IsPart (out_lines marks out) [])
   all_written marks (replied command reply ∷ more) old new driven =
@@ -101,42 +101,42 @@ abbrev pub OneAnswer : Type 0
 OneAnswer = (plan : List Line) (image : List ℕ) (a b : Result Standing KeeperError) → Told plan image a → Told plan image b → a ≡ b
 
 -- what a feed leaves at a moment, as it is handed in
-abbrev pub MomentsAreTold : {D : Type 0} → (D → Type 0) → (D → DiskState) → (D → ℕ) → Answers → Type 0
-MomentsAreTold {D = D} is_lawful state failures answers = (marks : Bool) (result : Result (Unit {0}) Fault) (plan : List Line) (alone : Bool) (disk left : D) (before after : Option (List ℕ)) (wanted : Wanted)
-    (from : SaysFrom is_lawful state failures answers marks result plan alone disk left before after wanted) → is_lawful disk
-    → (commands : List Command) (replies : List Reply) → Driven is_lawful state failures answers commands replies (found_by from) from.ended
-    → (history : List Submitted) → EachTellsHistory answers plan history (state disk)
-    → (c : List ℕ) → (state left).since (state disk).moment c → TellsOnward answers plan history (submitted_by commands replies) c
+abbrev pub MomentsAreTold : {D : Type 0} → (D → DiskView) → Answers → Type 0
+MomentsAreTold {D = D} view answers = (marks : Bool) (result : Result (Unit {0}) Fault) (plan : List Line) (alone : Bool) (disk left : D) (before after : Option (List ℕ)) (wanted : Wanted)
+    (from : SaysFrom view answers marks result plan alone disk left before after wanted) → (view disk).lawful
+    → (commands : List Command) (replies : List Reply) → Driven view answers commands replies (found_by from) from.ended
+    → (history : List Submitted) → EachTellsHistory answers plan history (view disk).state
+    → (c : List ℕ) → (view left).state.since (view disk).state.moment c → TellsOnward answers plan history (submitted_by commands replies) c
 
-module _ {D : Type 0} (is_lawful : D → Type 0) (state : D → DiskState) (failures : D → ℕ) (answers : Answers) (one : OneAnswer) (moments : MomentsAreTold is_lawful state failures answers) (plan : List Line) where
+module _ {D : Type 0} (view : D → DiskView) (answers : Answers) (one : OneAnswer) (moments : MomentsAreTold view answers) (plan : List Line) where
   -- each image of a disk that tells as an image tells its history, and keeps nothing beyond the epoch
-  each_tells : (image : List ℕ) (disk : D) (last : ℕ) (h : HoldsBack answers plan last image) → TellsAs plan image (state disk) → EachTellsHistory answers plan h.history (state disk)
+  each_tells : (image : List ℕ) (disk : D) (last : ℕ) (h : HoldsBack answers plan last image) → TellsAs plan image (view disk).state → EachTellsHistory answers plan h.history (view disk).state
   each_tells image disk last h alike c is = record { standing = h.tells.standing; told = alike c h.tells.standing is h.tells.told; stands = h.tells.stands }
 
-  each_low : (image : List ℕ) (disk : D) (last : ℕ) → HoldsBack answers plan last image → TellsAs plan image (state disk) → EachKeepsTo plan last (state disk)
+  each_low : (image : List ℕ) (disk : D) (last : ℕ) → HoldsBack answers plan last image → TellsAs plan image (view disk).state → EachKeepsTo plan last (view disk).state
   each_low image disk last h alike c is s told =
       subst (λ (t : Standing). t.epoch ≤ last)
       (sym (same_standing s h.tells.standing (one plan c (Ok s) (Ok h.tells.standing) told (alike c h.tells.standing is h.tells.told)))) h.low
 
   -- whatever a keeper said, it was told commands
   told_some : (marks : Bool) (result : Result (Unit {0}) Fault) (before after : Option (List ℕ)) (old new : Keeping D) (x : List Submitted) (notes : List Aside)
-      → SaysBy is_lawful state failures answers marks result before after old new x notes
-      → (commands : List Command) × (replies : List Reply) × Driven is_lawful state failures answers commands replies old new
+      → SaysBy view answers marks result before after old new x notes
+      → (commands : List Command) × (replies : List Reply) × Driven view answers commands replies old new
   told_some marks (Ok done) before after old new x notes says = (commands_in says.sayings, replies_in says.sayings, says.driven)
   told_some marks (Err fault) before after old new x notes says =
       ⊎_elim (λ unheard. (unheard.1.commands, unheard.1.replies, unheard.1.driven)) (λ some. (commands_in some.sayings, replies_in some.sayings, some.driven)) says
 
   -- what a crash leaves of it tells a history that begins with the one that was told
-  module _ (alone : Bool) (disk left : D) (before after : Option (List ℕ)) (wanted : Wanted) (lawful : is_lawful disk) (history : List Submitted) (told : EachTellsHistory answers plan history (state disk))
-      (image : List ℕ) (crashed : (state left).since (state disk).moment image) where
-    onward : (result : Result (Unit {0}) Fault) → SaysFrom is_lawful state failures answers true result plan alone disk left before after wanted → (more : List Submitted) × TellsHistory answers plan more image
+  module _ (alone : Bool) (disk left : D) (before after : Option (List ℕ)) (wanted : Wanted) (lawful : (view disk).lawful) (history : List Submitted) (told : EachTellsHistory answers plan history (view disk).state)
+      (image : List ℕ) (crashed : (view left).state.since (view disk).state.moment image) where
+    onward : (result : Result (Unit {0}) Fault) → SaysFrom view answers true result plan alone disk left before after wanted → (more : List Submitted) × TellsHistory answers plan more image
     onward result from =
         let some = told_some true result before after (found_by from) from.ended (new_to (found_by from) (wanted.epochs (last_epoch from.keeper.standing) (last_request from.keeper.standing)))
         from.notes from.said in
         let goes = moments true result plan alone disk left before after wanted from lawful some.0 some.1 some.2 history told image crashed in
         (history ++ take goes.count (submitted_by some.0 some.1), goes.tells)
 
-    still : (result : Result (Unit {0}) Fault) → SaysFed is_lawful state failures answers true result plan alone disk left before after wanted → (more : List Submitted) × TellsHistory answers plan more image
+    still : (result : Result (Unit {0}) Fault) → SaysFed view answers true result plan alone disk left before after wanted → (more : List Submitted) × TellsHistory answers plan more image
     still (Ok done) from = onward (Ok done) from
     still (Err fault) said =
         ⊎_elim
@@ -146,33 +146,33 @@ module _ {D : Type 0} (is_lawful : D → Type 0) (state : D → DiskState) (fail
         (λ from. onward (Err fault) from) said
 
   -- A DELIVERY leaves what holds back all that was not seen
-  holds_on : (image : List ℕ) (d : Delivery D) (last : ℕ) → HoldsBack answers plan last image → TellsAs plan image (state d.disk) → IsDelivery is_lawful state failures answers plan d
+  holds_on : (image : List ℕ) (d : Delivery D) (last : ℕ) → HoldsBack answers plan last image → TellsAs plan image (view d.disk).state → IsDelivery view answers plan d
       → HoldsBack answers plan (seen_by plan last d) d.image
   holds_on image d last h alike is = record { history = tells.0; tells = tells.1; low = kept d.image is.crashed tells.1.standing tells.1.told }
     where
       tells : (more : List Submitted) × TellsHistory answers plan more d.image
       tells =
-          still d.alone d.disk d.left d.before d.after (wanted_by d.refuse (limit_of d.refuse is.streams.records) (script_of d.placing true d.questions d.copies (limit_of d.refuse is.streams.records) plan d.input)) is.lawful h.history (each_tells image d.disk last h alike) d.image is.crashed
+          still d.alone d.disk d.left d.before d.after (wanted_of d.options is.streams.records plan d.input) is.lawful h.history (each_tells image d.disk last h alike) d.image is.crashed
           d.result is.streams.fed.said
 
-      kept : EverKeepsTo plan (seen_by plan last d) (state d.disk).moment (state d.left)
+      kept : EverKeepsTo plan (seen_by plan last d) (view d.disk).state.moment (view d.left).state
       kept =
-          subst (λ (m : ℕ). EverKeepsTo plan (seen_after last (script_of d.placing true d.questions d.copies (limit_of d.refuse m) plan d.input).orders) (state d.disk).moment (state d.left)) is.records
-          (is.streams.ever_held refl is.lawful last (each_low image d.disk last h alike))
+          subst (λ (m : ℕ). EverKeepsTo plan (seen_after last (script_by d.options m plan d.input).orders) (view d.disk).state.moment (view d.left).state) is.records
+          (is.streams.ever_held is.holds is.lawful last (each_low image d.disk last h alike))
 
   -- and so do several
-  pub all_hold : (ds : List (Delivery D)) (from to : List ℕ) (last : ℕ) → HoldsBack answers plan last from → Deliveries is_lawful state failures answers plan from ds to
+  pub all_hold : (ds : List (Delivery D)) (from to : List ℕ) (last : ℕ) → HoldsBack answers plan last from → Deliveries view answers plan from ds to
       → HoldsBack answers plan (seen_in_all plan last ds) to
   all_hold [] from to last h same = subst (HoldsBack answers plan last) (sym same) h
   all_hold (d ∷ more) from to last h ds = all_hold more d.image to (seen_by plan last d) (holds_on from d last h ds.0 ds.1) ds.2
 
-  module _ (disks : OfDisks is_lawful state) (states_join : StatesJoin answers) (outs_join : OutsJoin answers)
+  module _ (disks : OfDisks view) (states_join : StatesJoin answers) (outs_join : OutsJoin answers)
       (acknowledges : (commands : List Command) (replies : List Reply) (old new : Keeping D) → IsKeeping old answers
-      → Driven is_lawful state failures answers commands replies old new → Acknowledges answers commands replies old new)
+      → Driven view answers commands replies old new → Acknowledges answers commands replies old new)
       (hands : (commands : List Command) (replies : List Reply) (old new : Keeping D) → IsKeeping old answers
-      → Driven is_lawful state failures answers commands replies old new → HandsOn answers old new (submitted_by commands replies) (handed_out replies)) where
+      → Driven view answers commands replies old new → HandsOn answers old new (submitted_by commands replies) (handed_out replies)) where
     -- what the commands of a keeper handed out that was just found, where all went out: the outputs of what it stood for come first
-    handed_first : (commands : List Command) (replies : List Reply) (old new : Keeping D) → IsKeeping old answers → Driven is_lawful state failures answers commands replies old new
+    handed_first : (commands : List Command) (replies : List Reply) (old new : Keeping D) → IsKeeping old answers → Driven view answers commands replies old new
         → old.collected ≡ old.standing.epoch → old.queue ≡ [] → new.collected ≡ last_epoch new.standing → new.queue ≡ []
         → (more : List EpochOut) × (handed_out replies ≡ numbered (old.standing.epoch + 1) (outs answers old.plan old.standing.states old.standing.submitted) ++ more)
     handed_first commands replies old new kept driven first empty all none = (numbered (s.epoch + 1 + length there) (take more later), is)
@@ -218,8 +218,8 @@ module _ {D : Type 0} (is_lawful : D → Type 0) (state : D → DiskState) (fail
             ∙ (ap (numbered (s.epoch + 1)) (take-append-add there later more) ∙ numbered-append (s.epoch + 1) there (take more later)))))))))
 
     -- A STREAM THAT ANSWERED OK, by one worker
-    module _ (image : List ℕ) (d : Delivery D) (last : ℕ) (h : HoldsBack answers plan last image) (alike : TellsAs plan image (state d.disk)) (lawful : is_lawful d.disk)
-        {limit : Option ℕ} (done : Unit {0}) (from : SaysFrom is_lawful state failures answers true (Ok done) plan true d.disk d.left d.before d.after (wanted_by d.refuse limit (script_of d.placing true d.questions d.copies limit plan d.input))) where
+    module _ (image : List ℕ) (d : Delivery D) (last : ℕ) (h : HoldsBack answers plan last image) (alike : TellsAs plan image (view d.disk).state) (lawful : (view d.disk).lawful)
+        {limit : Option ℕ} (done : Unit {0}) (from : SaysFrom view answers true (Ok done) plan true d.disk d.left d.before d.after (wanted_by d.options.refuse limit (script_of d.options.placing d.options.hold d.options.questions d.options.copies limit plan d.input))) where
       abbrev keeper : Keeping D
       keeper = found_by from
 
@@ -229,10 +229,10 @@ module _ {D : Type 0} (is_lawful : D → Type 0) (state : D → DiskState) (fail
           let device = from.keeper.device in
           let sound = from.lawful lawful in
           let unwritten = from.unwritten lawful in
-          let since = disks.counts_now device (state d.disk).moment (state device).bytes sound unwritten.later (disks.reads_image device sound) in
-          let was = unwritten.each (state device).bytes since in
+          let since = disks.counts_now device (view d.disk).state.moment (view device).state.bytes sound unwritten.later (disks.reads_image device sound) in
+          let was = unwritten.each (view device).state.bytes since in
           same_standing keeper.standing h.tells.standing
-          (one plan (state device).bytes (Ok keeper.standing) (Ok h.tells.standing) (from.told lawful)
+          (one plan (view device).state.bytes (Ok keeper.standing) (Ok h.tells.standing) (from.told lawful)
           (subst (λ (c : List ℕ). Told plan c (Ok h.tells.standing)) (sym was.2) (alike was.0 h.tells.standing was.1 h.tells.told)))
 
       stands : Stands (states_by answers keeper.plan) keeper.standing h.history
@@ -272,7 +272,7 @@ module _ {D : Type 0} (is_lawful : D → Type 0) (state : D → DiskState) (fail
           let these = numbered (keeper.standing.epoch + 1) (outs answers keeper.plan keeper.standing.states keeper.standing.submitted) in
           All-weaker (λ out. IsPart (out_lines true out) text) IsWritten (λ out is after. is) these
           (first_of (λ out. IsPart (out_lines true out) text) these handed.0
-          (subst (λ (l : List EpochOut). All (λ out. IsPart (out_lines true out) text) l) handed.1 (all_written is_lawful state failures answers true from.said.sayings keeper from.ended from.said.driven)))
+          (subst (λ (l : List EpochOut). All (λ out. IsPart (out_lines true out) text) l) handed.1 (all_written view answers true from.said.sayings keeper from.ended from.said.driven)))
 
       pub writes_again : WritesAgain answers plan last image d
       writes_again = record {
@@ -287,13 +287,13 @@ module _ {D : Type 0} (is_lawful : D → Type 0) (state : D → DiskState) (fail
       }
 
     -- by its answer
-    pub again : (image : List ℕ) (d : Delivery D) (last : ℕ) → HoldsBack answers plan last image → TellsAs plan image (state d.disk) → IsDelivery is_lawful state failures answers plan d → d.alone ≡ true
+    pub again : (image : List ℕ) (d : Delivery D) (last : ℕ) → HoldsBack answers plan last image → TellsAs plan image (view d.disk).state → IsDelivery view answers plan d → d.alone ≡ true
         → OnOk d.result (WritesAgain answers plan last image d)
     again image d last h alike is alone = by d.result refl
       where
         by : (r : Result (Unit {0}) Fault) → d.result ≡ r → OnOk r (WritesAgain answers plan last image d)
         by (Ok done) same =
             writes_again image d last h alike is.lawful done
-            (subst (λ (a : Bool). SaysFed is_lawful state failures answers true (Ok done) plan a d.disk d.left d.before d.after (wanted_by d.refuse (limit_of d.refuse is.streams.records) (script_of d.placing true d.questions d.copies (limit_of d.refuse is.streams.records) plan d.input))) alone
-            (subst (λ (r : Result (Unit {0}) Fault). SaysFed is_lawful state failures answers true r plan d.alone d.disk d.left d.before d.after (wanted_by d.refuse (limit_of d.refuse is.streams.records) (script_of d.placing true d.questions d.copies (limit_of d.refuse is.streams.records) plan d.input))) same is.streams.fed.said))
+            (subst (λ (a : Bool). SaysFed view answers true (Ok done) plan a d.disk d.left d.before d.after (wanted_of d.options is.streams.records plan d.input)) alone
+            (subst (λ (r : Result (Unit {0}) Fault). SaysFed view answers true r plan d.alone d.disk d.left d.before d.after (wanted_of d.options is.streams.records plan d.input)) same is.streams.fed.said))
         by (Err fault) same = tt

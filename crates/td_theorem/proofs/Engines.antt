@@ -27,11 +27,11 @@ use Rattle.td_slots.specs.declared.error.SlotsError.TheVariants.{Damaged, NoSlot
 use Rattle.td_slots.specs.Slot.{slot, is_slot, is_front, states_in, are_states}
 use Rattle.td_slots.specs.Newest.{where_valid, spelled, checkpoint_in, second_if, later, newest_of, newest_in}
 use Rattle.td_journal.specs.declared.submitted.Submitted.{Submitted}
-use Rattle.td_standing.specs.Standing.{Standing, batches_of}
-use Rattle.td_standing.specs.Stops.{Stands}
-use Rattle.td_standing.specs.Told.{Told, folds_of, slots_of}
-use Rattle.td_standing.specs.Tells.{checkpoint_of}
-use Rattle.td_standing.specs.Advanced.{states_by}
+use Rattle.td_store.specs.standing.Standing.{Standing, batches_of}
+use Rattle.td_store.specs.standing.Stops.{Stands}
+use Rattle.td_store.specs.standing.Told.{Told, folds_of, slots_of}
+use Rattle.td_store.specs.standing.Tells.{checkpoint_of}
+use Rattle.td_store.specs.standing.Advanced.{states_by}
 use Rattle.td_keeper.specs.Acknowledged.{outs_of}
 use Rattle.td_theorem.specs.Comes.{HasStatesOf, ComesToTheRest}
 use Rattle.td_theorem.proofs.Histories.{take-numbered, outs, count, after_checkpoint, states_in_rest}

@@ -3,19 +3,19 @@ use Rattle.std.proofs.Common.{◌≡◌, ℕ, Bool, List, sym, subst}
 use Rattle.std.specs.Prelude.{Option, Result}
 use Rattle.td_plan.specs.Lines.{Line}
 use Rattle.td_calls.specs.Answers.{Answers}
-use Rattle.td_disk.specs.Disk.{DiskState}
+use Rattle.td_disk.specs.Disk.{DiskView, DiskState}
 use Rattle.td_head.specs.declared.head.Head.{Head}
-use Rattle.td_standing.specs.Standing.{Standing, nothing_told}
-use Rattle.td_standing.specs.Tells.{Keeps}
+use Rattle.td_store.specs.standing.Standing.{Standing, nothing_told}
+use Rattle.td_store.specs.standing.Tells.{Keeps}
 use Rattle.td_watch.specs.View.{View}
 use Rattle.td_keeper.specs.Keeping.{Keeping, IsKeeping, IsBelow, words_of}
 use Rattle.td_console.specs.declared.faults.Fault.{Fault}
 use Rattle.td_feed.specs.Said.{Wanted, SaysFrom}
 
 -- its memory is right, before a watch is attached
-pub is_kept : {D : Type 0} {is_lawful : D → Type 0} {state : D → DiskState} {failures : D → ℕ} {answers : Answers} {marks : Bool} {result : Result (Unit {0}) Fault} {plan : List Line}
+pub is_kept : {D : Type 0} {view : D → DiskView} {answers : Answers} {marks : Bool} {result : Result (Unit {0}) Fault} {plan : List Line}
     {alone : Bool} {disk left : D} {before after : Option (List ℕ)} {wanted : Wanted}
-    (from : SaysFrom is_lawful state failures answers marks result plan alone disk left before after wanted) → IsKeeping from.keeper answers
+    (from : SaysFrom view answers marks result plan alone disk left before after wanted) → IsKeeping from.keeper answers
 is_kept from = record {
   which = from.kept.which;
   batches = from.kept.batches;

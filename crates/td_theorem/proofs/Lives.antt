@@ -7,14 +7,14 @@ use Rattle.td_stamp.specs.declared.epoch_out.EpochOut.{EpochOut}
 use Rattle.td_plan.specs.Lines.{Line}
 use Rattle.td_plan.specs.Tree.{tree_of}
 use Rattle.td_calls.specs.Answers.{Answers}
-use Rattle.td_disk.specs.Disk.{DiskState}
+use Rattle.td_disk.specs.Disk.{DiskView, DiskState}
 use Rattle.td_journal.specs.Numbers.{rise}
 use Rattle.td_journal.specs.declared.submitted.Submitted.{Submitted}
-use Rattle.td_standing.specs.Standing.{Standing, nothing_told}
-use Rattle.td_standing.specs.Stops.{Stands}
-use Rattle.td_standing.specs.Told.{Told}
-use Rattle.td_standing.specs.Tells.{Tells, first_head}
-use Rattle.td_standing.specs.Advanced.{states_by}
+use Rattle.td_store.specs.standing.Standing.{Standing, nothing_told}
+use Rattle.td_store.specs.standing.Stops.{Stands}
+use Rattle.td_store.specs.standing.Told.{Told}
+use Rattle.td_store.specs.standing.Tells.{Tells, first_head}
+use Rattle.td_store.specs.standing.Advanced.{states_by}
 use Rattle.td_keeper.specs.Driven.{handed_out}
 use Rattle.td_keeper.specs.Acknowledged.{Epoch, epochs_of, outs_of, acknowledged_by, Acknowledges}
 use Rattle.td_theorem.specs.Life.{Stint, TellsAs, submitted_in_stint, acknowledged_in_life, handed_in_life}
@@ -37,21 +37,21 @@ record GoesOn {D : Type 0} (answers : Answers) (plan : List Line) (history : Lis
   handed : All (Contains (outs_of answers plan (history ++ more))) (handed_in_life life)
   once : rise (Some 0) (history ++ more) ≡ true
 
-module _ {D : Type 0} (is_lawful : D → Type 0) (state : D → DiskState) (failures : D → ℕ) (answers : Answers)
-    (keepers : OfKeepers is_lawful state failures answers) (standings : OfStandings answers) (disks : OfDisks is_lawful state) (plays : OfPlays answers) (plan : List Line) where
+module _ {D : Type 0} (view : D → DiskView) (answers : Answers)
+    (keepers : OfKeepers view answers) (standings : OfStandings answers) (disks : OfDisks view) (plays : OfPlays answers) (plan : List Line) where
   -- a keeper that was found stands for what the image tells
-  found_is : (s : Stint D) → IsPlainStint is_lawful state failures answers plan s → (from : List ℕ) (at : Standing) → TellsAs plan from (state s.disk) → Told plan from (Ok at) → s.found.standing ≡ at
+  found_is : (s : Stint D) → IsPlainStint view answers plan s → (from : List ℕ) (at : Standing) → TellsAs plan from (view s.disk).state → Told plan from (Ok at) → s.found.standing ≡ at
   found_is s is from at as_from told =
       same_standing s.found.standing at
-      (standings.one_answer plan (state s.found.device).bytes (Ok s.found.standing) (Ok at)
-      (standings.together plan s.found.head s.found.side s.found.standing (state s.found.device).bytes is.keeps.tells)
+      (standings.one_answer plan (view s.found.device).state.bytes (Ok s.found.standing) (Ok at)
+      (standings.together plan s.found.head s.found.side s.found.standing (view s.found.device).state.bytes is.keeps.tells)
       (subst (λ (c : List ℕ). Told plan c (Ok at)) (sym was.2) (as_from was.0 at was.1 told)))
     where
-      since : (state s.found.device).since (state s.disk).moment (state s.found.device).bytes
-      since = disks.counts_now s.found.device (state s.disk).moment (state s.found.device).bytes is.lawful is.unwritten.later (disks.reads_image s.found.device is.lawful)
+      since : (view s.found.device).state.since (view s.disk).state.moment (view s.found.device).state.bytes
+      since = disks.counts_now s.found.device (view s.disk).state.moment (view s.found.device).state.bytes is.lawful is.unwritten.later (disks.reads_image s.found.device is.lawful)
 
-      was : (d : List ℕ) × (state s.disk).images d × ((state s.found.device).bytes ≡ d)
-      was = is.unwritten.each (state s.found.device).bytes since
+      was : (d : List ℕ) × (view s.disk).state.images d × ((view s.found.device).state.bytes ≡ d)
+      was = is.unwritten.each (view s.found.device).state.bytes since
 
   -- a stint, and then others
   module _ (s : Stint D) (life : List (Stint D)) (to : List ℕ) (history batches : List Submitted) (left : Leaves answers plan history batches s)
@@ -96,7 +96,7 @@ module _ {D : Type 0} (is_lawful : D → Type 0) (state : D → DiskState) (fail
 
   -- one stint after another
   goes_on : (life : List (Stint D)) (from to : List ℕ) (at : Standing) (history : List Submitted) → Told plan from (Ok at) → Stands (states_by answers plan) at history → rise (Some 0) history ≡ true
-      → PlainLife is_lawful state failures answers plan from life to → GoesOn answers plan history life to
+      → PlainLife view answers plan from life to → GoesOn answers plan history life to
   goes_on [] from to at history told stands rising same = record {
     standing = at;
     told = subst (λ (c : List ℕ). Told plan c (Ok at)) (sym same) told;
@@ -110,12 +110,12 @@ module _ {D : Type 0} (is_lawful : D → Type 0) (state : D → DiskState) (fail
   goes_on (s ∷ life) from to at history told stands rising lived =
       joined s life to history acked.batches left (goes_on life s.left to left.standing (history ++ left.first) left.told left.stands risen lived.2) (acked.there history stood_for) meant
     where
-      is : IsPlainStint is_lawful state failures answers plan s
+      is : IsPlainStint view answers plan s
       is = lived.1
 
       -- of the plan that the keeper has
-      own : IsPlainStint is_lawful state failures answers s.found.plan s
-      own = subst (λ (p : List Line). IsPlainStint is_lawful state failures answers p s) (sym is.for_plan) is
+      own : IsPlainStint view answers s.found.plan s
+      own = subst (λ (p : List Line). IsPlainStint view answers p s) (sym is.for_plan) is
 
       stood_for : Stands (states_by answers s.found.plan) s.found.standing history
       stood_for =
@@ -126,27 +126,27 @@ module _ {D : Type 0} (is_lawful : D → Type 0) (state : D → DiskState) (fail
       acked = keepers.acknowledges s.commands s.replies s.found s.stood is.kept is.driven
 
       left : Leaves answers plan history acked.batches s
-      left = subst (λ (p : List Line). Leaves answers p history acked.batches s) is.for_plan (leaves is_lawful state failures answers keepers standings disks s own history stood_for acked)
+      left = subst (λ (p : List Line). Leaves answers p history acked.batches s) is.for_plan (leaves view answers keepers standings disks s own history stood_for acked)
 
       meant : All (Contains (outs_of answers plan (history ++ acked.batches))) (handed_out s.replies)
       meant =
           subst (λ (p : List Line). All (Contains (outs_of answers p (history ++ acked.batches))) (handed_out s.replies)) is.for_plan
-          (handed_meant is_lawful state failures answers keepers standings disks s own history stood_for acked plays)
+          (handed_meant view answers keepers standings disks s own history stood_for acked plays)
 
       risen : rise (Some 0) (history ++ left.first) ≡ true
       risen =
           rise_of standings.one_more standings.joined 0 (history ++ left.first) (history ++ submitted_in_stint s)
           (left.within.0, ap (λ (l : List Submitted). history ++ l) left.within.1 ∙ sym (append_assoc history left.first left.within.0))
-          (numbers_rise is_lawful state failures answers keepers standings disks s own history stood_for acked rising)
+          (numbers_rise view answers keepers standings disks s own history stood_for acked rising)
 
 -- THE THEOREM
-pub the_theorem : {D : Type 0} (is_lawful : D → Type 0) (state : D → DiskState) (failures : D → ℕ) (answers : Answers)
-    → OfKeepers is_lawful state failures answers → OfStandings answers → OfDisks is_lawful state → OfPlays answers → TheTheorem is_lawful state failures answers
-the_theorem is_lawful state failures answers keepers standings disks plays plan sizes formatted from to life lawful keeps image lived =
+pub the_theorem : {D : Type 0} (view : D → DiskView) (answers : Answers)
+    → OfKeepers view answers → OfStandings answers → OfDisks view → OfPlays answers → TheTheorem view answers
+the_theorem view answers keepers standings disks plays plan sizes formatted from to life lawful keeps image lived =
     let told : Told plan from (Ok nothing_told) =
     standings.together plan (first_head sizes) 0 nothing_told from (subst (Tells plan (first_head sizes) 0 nothing_told) (sym (keeps.durable from image)) keeps.tells) in
-    let lives = plain_life is_lawful state failures answers plan life from to lived in
-    let on = goes_on is_lawful state failures answers keepers standings disks plays plan (map plain life) from to nothing_told [] told (standings.first (tree_of plan)) refl lives in
+    let lives = plain_life view answers plan life from to lived in
+    let on = goes_on view answers keepers standings disks plays plan (map plain life) from to nothing_told [] told (standings.first (tree_of plan)) refl lives in
     record {
       standing = on.standing;
       told = on.told;

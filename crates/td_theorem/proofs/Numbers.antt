@@ -4,11 +4,11 @@ use Rattle.std.specs.Prelude.{Option, Some, ◌&&◌, max}
 use Rattle.std.proofs.lemmas.List.{append-nil, append_assoc}
 use Rattle.td_journal.specs.Numbers.{may_come, greatest, floor_after, rise}
 use Rattle.td_journal.specs.declared.submitted.Submitted.{Submitted}
-use Rattle.td_group.specs.Groups.{may_follow}
+use Rattle.td_store.specs.group.Groups.{may_follow}
 use Rattle.td_stamp.specs.declared.values.Entry.{Entry}
 use Rattle.td_stamp.specs.States.{StateList}
-use Rattle.td_standing.specs.Standing.{Standing, last_request}
-use Rattle.td_standing.specs.Stops.{Begins, Stands}
+use Rattle.td_store.specs.standing.Standing.{Standing, last_request}
+use Rattle.td_store.specs.standing.Stops.{Begins, Stands}
 
 -- the laws, as they are handed in
 abbrev pub OneMore : Type 0

@@ -3,13 +3,13 @@ use Rattle.std.proofs.Common.{◌≡◌, ◌⊎◌, inl, inr, ⊎_elim, ℕ, suc
 use Rattle.std.specs.Prelude.{Option, Some, None, ◌&&◌, not, nat_lt, nat_le, if◌then◌else◌}
 use Rattle.td_stamp.specs.declared.values.Entry.{Entry}
 use Rattle.td_calls.specs.Answers.{Answers}
-use Rattle.td_disk.specs.Disk.{DiskState}
+use Rattle.td_disk.specs.Disk.{DiskView, DiskState}
 use Rattle.td_journal.specs.Numbers.{may_come}
 use Rattle.td_journal.specs.declared.submitted.Submitted.{Submitted as AnySubmitted}
-use Rattle.td_group.specs.Groups.{may_follow}
-use Rattle.td_standing.specs.Standing.{last_epoch, last_request, submission}
-use Rattle.td_standing.specs.declared.error.KeeperError.{KeeperError}
-use Rattle.td_standing.specs.declared.error.KeeperError.TheVariants as error
+use Rattle.td_store.specs.group.Groups.{may_follow}
+use Rattle.td_store.specs.standing.Standing.{last_epoch, last_request, submission}
+use Rattle.td_store.specs.declared.standing.error.KeeperError.{KeeperError}
+use Rattle.td_store.specs.declared.standing.error.KeeperError.TheVariants as error
 use Rattle.td_keeper.specs.declared.group.GroupError.{GroupError}
 use Rattle.td_keeper.specs.declared.group.GroupError.TheVariants.{Repeated, Keeper}
 use Rattle.td_keeper.specs.declared.command.Command.{Command}
@@ -91,8 +91,8 @@ perhaps_all x e old new fresh broke = by (is_of_device e) refl
     by true is = (fresh (is_of_device_is e is), inl (broke (is_of_device_is e is)))
     by false is = (refl, inr refl)
 
-module _ {D : Type 0} (is_lawful : D → Type 0) (state : D → DiskState) (failures : D → ℕ) (answers : Answers) where
-  submits : (batch : List Entry) (reply : Reply) (old new : Keeping D) → Submits is_lawful state failures answers batch reply old new → Answered (Submit batch) reply old new
+module _ {D : Type 0} (view : D → DiskView) (answers : Answers) where
+  submits : (batch : List Entry) (reply : Reply) (old new : Keeping D) → Submits view answers batch reply old new → Answered (Submit batch) reply old new
   submits batch (Submitted n) old new r = record { fresh = refl; all = inr refl }
   submits batch (Refused e back) old new r =
       let p = perhaps (submission 0 batch ∷ []) e old new (λ is. refl) (λ is. (r.device is).broken) in
@@ -103,7 +103,7 @@ module _ {D : Type 0} (is_lawful : D → Type 0) (state : D → DiskState) (fail
   receives request batch (New n) old new r = record { fresh = one_follows (Some (last_request old.standing)) request batch r.0; all = inr refl }
   receives request batch (Already n) old new r = record { fresh = refl; all = inr refl }
 
-  submits_as : (request : ℕ) (batch : List Entry) (reply : Reply) (old new : Keeping D) → SubmitsAs is_lawful state failures answers request batch reply old new → Answered (SubmitAs request batch) reply old new
+  submits_as : (request : ℕ) (batch : List Entry) (reply : Reply) (old new : Keeping D) → SubmitsAs view answers request batch reply old new → Answered (SubmitAs request batch) reply old new
   submits_as request batch (SubmittedAs receipt) old new r = receives request batch receipt old new r.received
   submits_as request batch (Refused e back) old new r =
       let p = perhaps (submission request batch ∷ []) e old new (by (is_new old.standing request) refl) (λ is. (r.refused.device is).broken) in
@@ -117,7 +117,7 @@ module _ {D : Type 0} (is_lawful : D → Type 0) (state : D → DiskState) (fail
           (r.repeated is))
   submits_as request batch other old new r = absurd r
 
-  submits_all : (group : List AnySubmitted) (reply : Reply) (old new : Keeping D) → SubmitsAll is_lawful state failures answers group reply old new → Answered (SubmitAll group) reply old new
+  submits_all : (group : List AnySubmitted) (reply : Reply) (old new : Keeping D) → SubmitsAll view answers group reply old new → Answered (SubmitAll group) reply old new
   submits_all group (SubmittedAll first end) old new r = record { fresh = group_follows old group (inl r.accepted); all = inr (length_epochs first group) }
   submits_all group (RefusedAll e back) old new r =
       let p = perhaps_all group e old new fresh (λ is. (r.device is).broken) in
@@ -127,7 +127,7 @@ module _ {D : Type 0} (is_lawful : D → Type 0) (state : D → DiskState) (fail
       fresh device = group_follows old group (⊎_elim (λ is. inr (is ∙ ap (λ (f : GroupError). Some f) device)) (λ none. inl none.0) r.cause)
   submits_all group other old new r = absurd r
 
-  pub answered : (command : Command) (reply : Reply) (old new : Keeping D) → Obeys is_lawful state failures answers command reply old new → Answered command reply old new
+  pub answered : (command : Command) (reply : Reply) (old new : Keeping D) → Obeys view answers command reply old new → Answered command reply old new
   answered (Submit batch) reply old new obeys = submits batch reply old new obeys.0
   answered (SubmitAs request batch) reply old new obeys = submits_as request batch reply old new obeys.0
   answered (SubmitAll group) reply old new obeys = submits_all group reply old new obeys.0

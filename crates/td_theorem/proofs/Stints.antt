@@ -9,16 +9,16 @@ use Rattle.td_plan.specs.Lines.{Line}
 use Rattle.td_plan.specs.Tree.{tree_of}
 use Rattle.td_calls.specs.Answers.{Answers}
 use Rattle.td_batch.specs.Meaning.{numbered}
-use Rattle.td_disk.specs.Disk.{DiskState}
+use Rattle.td_disk.specs.Disk.{DiskView, DiskState}
 use Rattle.td_journal.specs.Numbers.{rise}
 use Rattle.td_journal.specs.declared.submitted.Submitted.{Submitted}
-use Rattle.td_group.specs.Groups.{may_follow}
-use Rattle.td_standing.specs.declared.error.KeeperError.{KeeperError}
-use Rattle.td_standing.specs.Standing.{Standing, last_epoch, batches_of}
-use Rattle.td_standing.specs.Stops.{Begins, Stands}
-use Rattle.td_standing.specs.Told.{Told}
-use Rattle.td_standing.specs.Tells.{Tells, Keeps}
-use Rattle.td_standing.specs.Advanced.{TellsAdvance, HeldWhere, states_by}
+use Rattle.td_store.specs.group.Groups.{may_follow}
+use Rattle.td_store.specs.declared.standing.error.KeeperError.{KeeperError}
+use Rattle.td_store.specs.standing.Standing.{Standing, last_epoch, batches_of}
+use Rattle.td_store.specs.standing.Stops.{Begins, Stands}
+use Rattle.td_store.specs.standing.Told.{Told}
+use Rattle.td_store.specs.standing.Tells.{Tells, Keeps}
+use Rattle.td_store.specs.standing.Advanced.{TellsAdvance, HeldWhere, states_by}
 use Rattle.td_keeper.specs.declared.command.Command.{Command}
 use Rattle.td_keeper.specs.declared.command.Reply.{Reply}
 use Rattle.td_keeper.specs.Keeping.{Keeping, IsKeeping}
@@ -45,9 +45,9 @@ pub first_of : {X : Type 0} (P : X → Type 0) (xs ys : List X) → All P (xs ++
 first_of P [] ys all = All-nil P
 first_of P (x ∷ xs) ys all = All-cons P x xs (All-head P x (xs ++ ys) all) (first_of P xs ys (All-tail P x (xs ++ ys) all))
 
-module _ {D : Type 0} (is_lawful : D → Type 0) (state : D → DiskState) (failures : D → ℕ) (answers : Answers) (keepers : OfKeepers is_lawful state failures answers) where
+module _ {D : Type 0} (view : D → DiskView) (answers : Answers) (keepers : OfKeepers view answers) where
   -- where the device did not fail, as much was acknowledged as was submitted
-  as_many : (commands : List Command) (replies : List Reply) (old new : Keeping D) → Driven is_lawful state failures answers commands replies old new → new.broken ≡ false
+  as_many : (commands : List Command) (replies : List Reply) (old new : Keeping D) → Driven view answers commands replies old new → new.broken ≡ false
       → length (acknowledged_by commands replies) ≡ length (submitted_by commands replies)
   as_many [] [] old new e whole = refl
   as_many [] (r ∷ rs) old new none whole = absurd none
@@ -58,15 +58,15 @@ module _ {D : Type 0} (is_lawful : D → Type 0) (state : D → DiskState) (fail
       mid = driven.0
 
       by : (b : Bool) → mid.broken ≡ b → length (acknowledged_by cs rs) ≡ length (submitted_by cs rs) → length (acknowledged_in c r ++ acknowledged_by cs rs) ≡ length (submitted_in c r ++ submitted_by cs rs)
-      by true broke later = absurd (never new.broken (broken_stays is_lawful state failures answers keepers.rest cs rs mid new driven.3 broke).2 whole)
+      by true broke later = absurd (never new.broken (broken_stays view answers keepers.rest cs rs mid new driven.3 broke).2 whole)
       by false goes_on later =
-          let first = answered is_lawful state failures answers c r old mid driven.2 in
+          let first = answered view answers c r old mid driven.2 in
           let a = length-append (acknowledged_in c r) (acknowledged_by cs rs) in
           let b = length-append (submitted_in c r) (submitted_by cs rs) in
           ⊎_elim (λ broke. absurd (never mid.broken broke goes_on)) (λ here. omega (arith, a, b, here, later)) first.all
 
   -- so it is what was submitted
-  all_of : (commands : List Command) (replies : List Reply) (old new : Keeping D) → Driven is_lawful state failures answers commands replies old new
+  all_of : (commands : List Command) (replies : List Reply) (old new : Keeping D) → Driven view answers commands replies old new
       → (acked : Acknowledges answers commands replies old new) → new.broken ≡ false → submitted_by commands replies ≡ acked.batches
   all_of commands replies old new driven acked whole =
       let many = as_many commands replies old new driven whole in
@@ -80,7 +80,7 @@ module _ {D : Type 0} (is_lawful : D → Type 0) (state : D → DiskState) (fail
   module _ (standings : OfStandings answers) where
     -- THE NUMBERS of what is submitted rise, from those of the history on
     rises : (commands : List Command) (replies : List Reply) (old new : Keeping D) (history : List Submitted) → IsKeeping old answers
-        → Driven is_lawful state failures answers commands replies old new → Stands (states_by answers old.plan) old.standing history → rise (Some 0) history ≡ true
+        → Driven view answers commands replies old new → Stands (states_by answers old.plan) old.standing history → rise (Some 0) history ≡ true
         → rise (Some 0) (history ++ submitted_by commands replies) ≡ true
     rises [] [] old new history kept e stands rising = subst (λ (l : List Submitted). rise (Some 0) l ≡ true) (sym (append-nil history)) rising
     rises [] (r ∷ rs) old new history kept none stands rising = absurd none
@@ -96,9 +96,9 @@ module _ {D : Type 0} (is_lawful : D → Type 0) (state : D → DiskState) (fail
         here =
             rise_on standings.one_more standings.joined 0 history (submitted_in c r) rising
             (subst (λ (n : ℕ). may_follow (Some n) (submitted_in c r) ≡ true) (sym (greatest_of standings.joined (states_by answers old.plan) old.standing history stands))
-            (answered is_lawful state failures answers c r old mid driven.2).fresh)
+            (answered view answers c r old mid driven.2).fresh)
 
-        alone : Driven is_lawful state failures answers (c ∷ []) (r ∷ []) old mid
+        alone : Driven view answers (c ∷ []) (r ∷ []) old mid
         alone = (mid, driven.1, driven.2, refl)
 
         by : (b : Bool) → mid.broken ≡ b
@@ -106,7 +106,7 @@ module _ {D : Type 0} (is_lawful : D → Type 0) (state : D → DiskState) (fail
             → rise (Some 0) ((history ++ submitted_in c r) ++ submitted_by cs rs) ≡ true)
             → rise (Some 0) ((history ++ submitted_in c r) ++ submitted_by cs rs) ≡ true
         by true broke later =
-            subst (λ (l : List Submitted). rise (Some 0) ((history ++ submitted_in c r) ++ l) ≡ true) (sym (broken_stays is_lawful state failures answers keepers.rest cs rs mid new driven.3 broke).1)
+            subst (λ (l : List Submitted). rise (Some 0) ((history ++ submitted_in c r) ++ l) ≡ true) (sym (broken_stays view answers keepers.rest cs rs mid new driven.3 broke).1)
             (subst (λ (l : List Submitted). rise (Some 0) l ≡ true) (sym (append-nil (history ++ submitted_in c r))) here)
         by false goes_on later =
             let acked = keepers.acknowledges (c ∷ []) (r ∷ []) old mid kept alone in
@@ -115,12 +115,12 @@ module _ {D : Type 0} (is_lawful : D → Type 0) (state : D → DiskState) (fail
             subst (λ (l : List Submitted). Stands (states_by answers old.plan) mid.standing (history ++ l)) (sym all) (acked.stands history stands) in
             later (subst (λ (p : List Line). Stands (states_by answers p) mid.standing (history ++ submitted_in c r)) (sym acked.plan) stood) here
 
-    module _ (disks : OfDisks is_lawful state) where
+    module _ (disks : OfDisks view) where
       -- where nothing was written since a keeper stood, whose device had not failed
-      unwritten : (k : Keeping D) (x : List Submitted) (c : List ℕ) → is_lawful k.device → k.broken ≡ false → HeldWhere k.broken answers k.plan k.head k.side k.standing (state k.device)
-          → (state k.device).since (state k.device).moment c → TellsAdvance answers k.plan k.standing x (last_epoch k.standing) c
+      unwritten : (k : Keeping D) (x : List Submitted) (c : List ℕ) → (view k.device).lawful → k.broken ≡ false → HeldWhere k.broken answers k.plan k.head k.side k.standing (view k.device).state
+          → (view k.device).state.since (view k.device).state.moment c → TellsAdvance answers k.plan k.standing x (last_epoch k.standing) c
       unwritten k x c lawful whole held was =
-          let keeps : Keeps k.plan k.head k.side k.standing (state k.device) = subst (λ (b : Bool). HeldWhere b answers k.plan k.head k.side k.standing (state k.device)) whole held in
+          let keeps : Keeps k.plan k.head k.side k.standing (view k.device).state = subst (λ (b : Bool). HeldWhere b answers k.plan k.head k.side k.standing (view k.device).state) whole held in
           record {
             standing = k.standing;
             told = standings.together k.plan k.head k.side k.standing c (subst (Tells k.plan k.head k.side k.standing) (sym (keeps.durable c (disks.only_now k.device c lawful was))) keeps.tells);
@@ -129,13 +129,13 @@ module _ {D : Type 0} (is_lawful : D → Type 0) (state : D → DiskState) (fail
           }
 
       -- each image since then
-      advanced : (commands : List Command) (replies : List Reply) (old new : Keeping D) (c : List ℕ) → IsKeeping old answers → is_lawful old.device → old.broken ≡ false
-          → HeldWhere old.broken answers old.plan old.head old.side old.standing (state old.device)
-          → Driven is_lawful state failures answers commands replies old new → (state new.device).since (state old.device).moment c
+      advanced : (commands : List Command) (replies : List Reply) (old new : Keeping D) (c : List ℕ) → IsKeeping old answers → (view old.device).lawful → old.broken ≡ false
+          → HeldWhere old.broken answers old.plan old.head old.side old.standing (view old.device).state
+          → Driven view answers commands replies old new → (view new.device).state.since (view old.device).state.moment c
           → TellsAdvance answers old.plan old.standing (submitted_by commands replies) (last_epoch old.standing) c
       advanced commands replies old new c kept lawful whole held driven left =
           ⊎_elim (λ was. unwritten old (submitted_by commands replies) c lawful whole held was) (λ told. told)
-          ((keepers.advances commands replies old new kept lawful whole driven).since whole (state old.device).moment c (omega arith) left)
+          ((keepers.advances commands replies old new kept lawful whole driven).since whole (view old.device).state.moment c (omega arith) left)
 
 -- of a list that begins a history with what was submitted, and goes as far as what was acknowledged: what comes after the history
 parted : (history batches all told : List Submitted) → Begins batches all → Begins told (history ++ all) → length history + length batches ≤ length told
@@ -175,9 +175,9 @@ pub record Leaves {D : Type 0} (answers : Answers) (plan : List Line) (history b
   pub holds : Begins batches first
   pub within : Begins first (submitted_in_stint s)
 
-module _ {D : Type 0} (is_lawful : D → Type 0) (state : D → DiskState) (failures : D → ℕ) (answers : Answers)
-    (keepers : OfKeepers is_lawful state failures answers) (standings : OfStandings answers) (disks : OfDisks is_lawful state)
-    (s : Stint D) (is : IsPlainStint is_lawful state failures answers s.found.plan s) (history : List Submitted) (stands : Stands (states_by answers s.found.plan) s.found.standing history)
+module _ {D : Type 0} (view : D → DiskView) (answers : Answers)
+    (keepers : OfKeepers view answers) (standings : OfStandings answers) (disks : OfDisks view)
+    (s : Stint D) (is : IsPlainStint view answers s.found.plan s) (history : List Submitted) (stands : Stands (states_by answers s.found.plan) s.found.standing history)
     (acked : Acknowledges answers s.commands s.replies s.found s.stood) where
   -- what its commands submitted that were replied to, and the others
   abbrev seen : List Submitted
@@ -186,10 +186,10 @@ module _ {D : Type 0} (is_lawful : D → Type 0) (state : D → DiskState) (fail
   abbrev unseen : List Submitted
   unseen = submitted_by s.more s.unseen
 
-  held_found : HeldWhere s.found.broken answers s.found.plan s.found.head s.found.side s.found.standing (state s.found.device)
-  held_found = subst (λ (b : Bool). HeldWhere b answers s.found.plan s.found.head s.found.side s.found.standing (state s.found.device)) (sym is.fresh.whole) is.keeps
+  held_found : HeldWhere s.found.broken answers s.found.plan s.found.head s.found.side s.found.standing (view s.found.device).state
+  held_found = subst (λ (b : Bool). HeldWhere b answers s.found.plan s.found.head s.found.side s.found.standing (view s.found.device).state) (sym is.fresh.whole) is.keeps
 
-  lawful_stood : is_lawful s.stood.device
+  lawful_stood : (view s.stood.device).lawful
   lawful_stood = (keepers.advances s.commands s.replies s.found s.stood is.kept is.lawful is.fresh.whole is.driven).lawful
 
   many : length history ≡ last_epoch s.found.standing
@@ -216,12 +216,12 @@ module _ {D : Type 0} (is_lawful : D → Type 0) (state : D → DiskState) (fail
   of_whole whole = of_advance tells.standing tells.told (acked.batches ++ unseen) told.0 (unseen, refl) within told.2 tells.holds ([], among)
     where
       all : seen ≡ acked.batches
-      all = all_of is_lawful state failures answers keepers s.commands s.replies s.found s.stood is.driven acked whole
+      all = all_of view answers keepers s.commands s.replies s.found s.stood is.driven acked whole
 
       tells : TellsAdvance answers s.found.plan s.stood.standing unseen (last_epoch s.stood.standing) s.left
       tells =
           subst (λ (p : List Line). TellsAdvance answers p s.stood.standing unseen (last_epoch s.stood.standing) s.left) acked.plan
-          (advanced is_lawful state failures answers keepers standings disks s.more s.unseen s.stood s.ended s.left acked.kept lawful_stood whole is.held is.stopped is.crashed)
+          (advanced view answers keepers standings disks s.more s.unseen s.stood s.ended s.left acked.kept lawful_stood whole is.held is.stopped is.crashed)
 
       told : (w : List Submitted) × Begins w ((history ++ acked.batches) ++ unseen) × Stands (states_by answers s.found.plan) tells.standing w
       told = standings.each (tree_of s.found.plan) s.stood.standing tells.standing (history ++ acked.batches) unseen (acked.stands history stands) tells.advance
@@ -237,24 +237,24 @@ module _ {D : Type 0} (is_lawful : D → Type 0) (state : D → DiskState) (fail
   of_broken broke = of_advance tells.standing tells.told seen told.0 acked.submitted told.1 told.2 far (unseen, refl)
     where
       device : s.ended.device ≡ s.stood.device
-      device = (broken_stays is_lawful state failures answers keepers.rest s.more s.unseen s.stood s.ended is.stopped broke).0
+      device = (broken_stays view answers keepers.rest s.more s.unseen s.stood s.ended is.stopped broke).0
 
-      image : (state s.stood.device).images s.left
-      image = disks.only_now s.stood.device s.left lawful_stood (subst (λ (d : D). (state d).since (state s.stood.device).moment s.left) device is.crashed)
+      image : (view s.stood.device).state.images s.left
+      image = disks.only_now s.stood.device s.left lawful_stood (subst (λ (d : D). (view d).state.since (view s.stood.device).state.moment s.left) device is.crashed)
 
-      since : (state s.stood.device).since (state s.found.device).moment s.left
+      since : (view s.stood.device).state.since (view s.found.device).state.moment s.left
       since =
           let later = (keepers.advances s.commands s.replies s.found s.stood is.kept is.lawful is.fresh.whole is.driven).later in
-          disks.counts_now s.stood.device (state s.found.device).moment s.left lawful_stood later image
+          disks.counts_now s.stood.device (view s.found.device).state.moment s.left lawful_stood later image
 
       tells : TellsAdvance answers s.found.plan s.found.standing seen (last_epoch s.found.standing) s.left
-      tells = advanced is_lawful state failures answers keepers standings disks s.commands s.replies s.found s.stood s.left is.kept is.lawful is.fresh.whole held_found is.driven since
+      tells = advanced view answers keepers standings disks s.commands s.replies s.found s.stood s.left is.kept is.lawful is.fresh.whole held_found is.driven since
 
       told : (w : List Submitted) × Begins w (history ++ seen) × Stands (states_by answers s.found.plan) tells.standing w
       told = standings.each (tree_of s.found.plan) s.found.standing tells.standing history seen stands tells.advance
 
       holds : (x : List Submitted) × TellsAdvance answers s.stood.plan s.stood.standing x (last_epoch s.stood.standing) s.left
-      holds = (subst (λ (b : Bool). HeldWhere b answers s.stood.plan s.stood.head s.stood.side s.stood.standing (state s.stood.device)) broke is.held) s.left image
+      holds = (subst (λ (b : Bool). HeldWhere b answers s.stood.plan s.stood.head s.stood.side s.stood.standing (view s.stood.device).state) broke is.held) s.left image
 
       far : last_epoch s.stood.standing ≤ last_epoch tells.standing
       far =
@@ -275,16 +275,16 @@ module _ {D : Type 0} (is_lawful : D → Type 0) (state : D → DiskState) (fail
   numbers_rise rising = subst (λ (l : List Submitted). rise (Some 0) l ≡ true) (append_assoc history seen unseen) (by s.stood.broken refl)
     where
       here : rise (Some 0) (history ++ seen) ≡ true
-      here = rises is_lawful state failures answers keepers standings s.commands s.replies s.found s.stood history is.kept is.driven stands rising
+      here = rises view answers keepers standings s.commands s.replies s.found s.stood history is.kept is.driven stands rising
 
       by : (b : Bool) → s.stood.broken ≡ b → rise (Some 0) ((history ++ seen) ++ unseen) ≡ true
       by true broke =
-          let none = (broken_stays is_lawful state failures answers keepers.rest s.more s.unseen s.stood s.ended is.stopped broke).1 in
+          let none = (broken_stays view answers keepers.rest s.more s.unseen s.stood s.ended is.stopped broke).1 in
           subst (λ (l : List Submitted). rise (Some 0) ((history ++ seen) ++ l) ≡ true) (sym none) (subst (λ (l : List Submitted). rise (Some 0) l ≡ true) (sym (append-nil (history ++ seen))) here)
       by false whole =
-          let all = all_of is_lawful state failures answers keepers s.commands s.replies s.found s.stood is.driven acked whole in
+          let all = all_of view answers keepers s.commands s.replies s.found s.stood is.driven acked whole in
           let stood : Stands (states_by answers s.found.plan) s.stood.standing (history ++ seen) = subst (λ (l : List Submitted). Stands (states_by answers s.found.plan) s.stood.standing (history ++ l)) (sym all) (acked.stands history stands) in
-          rises is_lawful state failures answers keepers standings s.more s.unseen s.stood s.ended (history ++ seen) acked.kept is.stopped
+          rises view answers keepers standings s.more s.unseen s.stood s.ended (history ++ seen) acked.kept is.stopped
           (subst (λ (p : List Line). Stands (states_by answers p) s.stood.standing (history ++ seen)) (sym acked.plan) stood) here
 
   module _ (plays : OfPlays answers) where

@@ -4,9 +4,9 @@ use Rattle.std.specs.Prelude.{Option, Some, None}
 use Rattle.td_stamp.specs.declared.values.Entry.{Entry}
 use Rattle.td_calls.specs.Answers.{Answers}
 use Rattle.td_machine.specs.State.{HallState}
-use Rattle.td_disk.specs.Disk.{DiskState}
+use Rattle.td_disk.specs.Disk.{DiskView, DiskState}
 use Rattle.td_journal.specs.declared.submitted.Submitted.{Submitted as AnySubmitted}
-use Rattle.td_standing.specs.declared.error.KeeperError.{KeeperError}
+use Rattle.td_store.specs.declared.standing.error.KeeperError.{KeeperError}
 use Rattle.td_watch.specs.View.{View}
 use Rattle.td_questions.specs.declared.question.Wanted.{Wanted}
 use Rattle.td_keeper.specs.declared.command.Command.{Command}
@@ -69,9 +69,9 @@ grouped : {D : Type 0} (group : List AnySubmitted) (old new : Keeping D) → new
 grouped [] old new is = ap unwatched is
 grouped (x ∷ xs) old new is = ap unwatched is
 
-module _ {D : Type 0} (is_lawful : D → Type 0) (state : D → DiskState) (failures : D → ℕ) (answers : Answers) where
-  may_write : (reply : Reply) (old new : Keeping D) (x : List AnySubmitted) → MayWrite is_lawful state failures answers reply old new x
-      → MayWrite is_lawful state failures answers reply (unwatched old) (unwatched new) x
+module _ {D : Type 0} (view : D → DiskView) (answers : Answers) where
+  may_write : (reply : Reply) (old new : Keeping D) (x : List AnySubmitted) → MayWrite view answers reply old new x
+      → MayWrite view answers reply (unwatched old) (unwatched new) x
   may_write reply old new x is = record {
     counted = is.counted;
     stays = is.stays;
@@ -79,10 +79,10 @@ module _ {D : Type 0} (is_lawful : D → Type 0) (state : D → DiskState) (fail
     short = is.short;
   }
 
-  fails : (old new : Keeping D) → Fails is_lawful state failures answers old new → Fails is_lawful state failures answers (unwatched old) (unwatched new)
+  fails : (old new : Keeping D) → Fails view answers old new → Fails view answers (unwatched old) (unwatched new)
   fails old new is = record { broken = is.broken; risen = is.risen }
 
-  finds : {P Q : HallState → Type 0} (old new : Keeping D) → Finds is_lawful state failures answers P old new → ((S : HallState) → P S → Q S) → Finds is_lawful state failures answers Q (unwatched old) (unwatched new)
+  finds : {P Q : HallState → Type 0} (old new : Keeping D) → Finds view answers P old new → ((S : HallState) → P S → Q S) → Finds view answers Q (unwatched old) (unwatched new)
   finds old new is weaker = record {
     hall = is.hall;
     reached = is.reached;
@@ -91,7 +91,7 @@ module _ {D : Type 0} (is_lawful : D → Type 0) (state : D → DiskState) (fail
   }
 
   not_submitted : (refusal : Option KeeperError) (batch : List Entry) (e : KeeperError) (back : Option (List Entry)) (old new : Keeping D)
-      → IsNotSubmitted is_lawful state failures answers refusal batch e back old new → IsNotSubmitted is_lawful state failures answers refusal batch e back (unwatched old) (unwatched new)
+      → IsNotSubmitted view answers refusal batch e back old new → IsNotSubmitted view answers refusal batch e back (unwatched old) (unwatched new)
   not_submitted refusal batch e back old new r = record {
     batch_back = r.batch_back;
     cause = r.cause;
@@ -100,8 +100,8 @@ module _ {D : Type 0} (is_lawful : D → Type 0) (state : D → DiskState) (fail
     device = λ is. fails old new (r.device is);
   }
 
-  submits : (batch : List Entry) (reply : Reply) (old new : Keeping D) → Submits is_lawful state failures answers batch reply old new
-      → Submits is_lawful state failures answers batch reply (unwatched old) (unwatched new)
+  submits : (batch : List Entry) (reply : Reply) (old new : Keeping D) → Submits view answers batch reply old new
+      → Submits view answers batch reply (unwatched old) (unwatched new)
   submits batch (Submitted n) old new r = record { accepted = r.accepted; submitted = ap unwatched r.submitted; last = r.last }
   submits batch (Refused e back) old new r = not_submitted _ batch e back old new r
   submits batch other old new r = absurd r
@@ -110,14 +110,14 @@ module _ {D : Type 0} (is_lawful : D → Type 0) (state : D → DiskState) (fail
   receives request batch (New n) old new r = (r.0, r.1, ap unwatched r.2)
   receives request batch (Already n) old new r = (r.0, r.1, ap unwatched r.2)
 
-  submits_as : (request : ℕ) (batch : List Entry) (reply : Reply) (old new : Keeping D) → SubmitsAs is_lawful state failures answers request batch reply old new
-      → SubmitsAs is_lawful state failures answers request batch reply (unwatched old) (unwatched new)
+  submits_as : (request : ℕ) (batch : List Entry) (reply : Reply) (old new : Keeping D) → SubmitsAs view answers request batch reply old new
+      → SubmitsAs view answers request batch reply (unwatched old) (unwatched new)
   submits_as request batch (SubmittedAs receipt) old new r = record { accepted = r.accepted; received = receives request batch receipt old new r.received }
   submits_as request batch (Refused e back) old new r = record { refused = not_submitted _ batch e back old new r.refused; repeated = r.repeated }
   submits_as request batch other old new r = absurd r
 
-  submits_all : (group : List AnySubmitted) (reply : Reply) (old new : Keeping D) → SubmitsAll is_lawful state failures answers group reply old new
-      → SubmitsAll is_lawful state failures answers group reply (unwatched old) (unwatched new)
+  submits_all : (group : List AnySubmitted) (reply : Reply) (old new : Keeping D) → SubmitsAll view answers group reply old new
+      → SubmitsAll view answers group reply (unwatched old) (unwatched new)
   submits_all group (SubmittedAll first end) old new r = record { accepted = r.accepted; submitted = grouped group old new r.submitted; first_is = r.first_is; end_is = r.end_is }
   submits_all group (RefusedAll e back) old new r = record {
     group_back = r.group_back;
@@ -129,7 +129,7 @@ module _ {D : Type 0} (is_lawful : D → Type 0) (state : D → DiskState) (fail
   }
   submits_all group other old new r = absurd r
 
-  releases : (reply : Reply) (old new : Keeping D) → Releases is_lawful state failures answers reply old new → Releases is_lawful state failures answers reply (unwatched old) (unwatched new)
+  releases : (reply : Reply) (old new : Keeping D) → Releases view answers reply old new → Releases view answers reply (unwatched old) (unwatched new)
   releases (Released n) old new r = finds old new r (λ S is. (own old S is.0, is.1, is.2, is.3))
   releases (Refused e back) old new r = (
     r.0,
@@ -137,15 +137,15 @@ module _ {D : Type 0} (is_lawful : D → Type 0) (state : D → DiskState) (fail
   )
   releases other old new r = absurd r
 
-  settles : (reply : Reply) (old new : Keeping D) → Settles is_lawful state failures answers reply old new → Settles is_lawful state failures answers reply (unwatched old) (unwatched new)
+  settles : (reply : Reply) (old new : Keeping D) → Settles view answers reply old new → Settles view answers reply (unwatched old) (unwatched new)
   settles Settled old new r = finds old new r (λ S is. is)
   settles (Refused e back) old new r = (r.0, (r.1.0, r.1.1, finds old new r.1.2 (λ S is. is)))
   settles other old new r = absurd r
 
-  brings : (old : Keeping D) (S : HallState) → BringsIn is_lawful state failures answers old S → BringsIn is_lawful state failures answers (unwatched old) S
+  brings : (old : Keeping D) (S : HallState) → BringsIn view answers old S → BringsIn view answers (unwatched old) S
   brings old S is = record { reached = is.reached; own = own old S is.own; outs = is.outs }
 
-  collects : (reply : Reply) (old new : Keeping D) → Collects is_lawful state failures answers reply old new → Collects is_lawful state failures answers reply (unwatched old) (unwatched new)
+  collects : (reply : Reply) (old new : Keeping D) → Collects view answers reply old new → Collects view answers reply (unwatched old) (unwatched new)
   collects (Collected n) old new r = record { hall = r.hall; brings = brings old r.hall r.brings; count = r.count; collected = ap unwatched r.collected }
   collects (Refused e back) old new r = (
     r.0,
@@ -153,15 +153,15 @@ module _ {D : Type 0} (is_lawful : D → Type 0) (state : D → DiskState) (fail
   )
   collects other old new r = absurd r
 
-  hands_out : (reply : Reply) (old new : Keeping D) → HandsOut is_lawful state failures answers reply old new → HandsOut is_lawful state failures answers reply (unwatched old) (unwatched new)
+  hands_out : (reply : Reply) (old new : Keeping D) → HandsOut view answers reply old new → HandsOut view answers reply (unwatched old) (unwatched new)
   hands_out (Out None) old new r = (r.0, ap unwatched r.1)
   hands_out (Out (Some out)) old new r = (r.0, ap unwatched r.1)
   hands_out other old new r = absurd r
 
-  not_cut : (e : KeeperError) (old new : Keeping D) → IsNotCut is_lawful state failures answers e old new → IsNotCut is_lawful state failures answers e (unwatched old) (unwatched new)
+  not_cut : (e : KeeperError) (old new : Keeping D) → IsNotCut view answers e old new → IsNotCut view answers e (unwatched old) (unwatched new)
   not_cut e old new r = record { hall = r.hall; brings = brings old r.hall r.brings; cause = r.cause; collected = ap unwatched r.collected }
 
-  cuts : (most : Option ℕ) (reply : Reply) (old new : Keeping D) → Cuts is_lawful state failures answers most reply old new → Cuts is_lawful state failures answers most reply (unwatched old) (unwatched new)
+  cuts : (most : Option ℕ) (reply : Reply) (old new : Keeping D) → Cuts view answers most reply old new → Cuts view answers most reply (unwatched old) (unwatched new)
   cuts most (CutTaken n) old new r = record {
     hall = r.hall;
     brings = brings old r.hall r.brings;
@@ -179,8 +179,8 @@ module _ {D : Type 0} (is_lawful : D → Type 0) (state : D → DiskState) (fail
   cuts most other old new r = absurd r
 
   -- an answer is of the same states
-  asks : (vertex : ℕ) (wanted : Wanted) (reply : Reply) (old new : Keeping D) → Asks is_lawful state failures answers vertex wanted reply old new
-      → Asks is_lawful state failures answers vertex wanted reply (unwatched old) (unwatched new)
+  asks : (vertex : ℕ) (wanted : Wanted) (reply : Reply) (old new : Keeping D) → Asks view answers vertex wanted reply old new
+      → Asks view answers vertex wanted reply (unwatched old) (unwatched new)
   asks vertex wanted (Answered m ys) old new r = record { last = r.last; answer = r.answer; same = ap unwatched r.same }
   asks vertex wanted (Refused e back) old new r = (
     r.0,
@@ -190,7 +190,7 @@ module _ {D : Type 0} (is_lawful : D → Type 0) (state : D → DiskState) (fail
   )
   asks vertex wanted other old new r = absurd r
 
-  writes : (reply : Reply) (old new : Keeping D) → Writes is_lawful state failures answers reply old new → Writes is_lawful state failures answers reply (unwatched old) (unwatched new)
+  writes : (reply : Reply) (old new : Keeping D) → Writes view answers reply old new → Writes view answers reply (unwatched old) (unwatched new)
   writes (Written w) old new r = record {
     accepted = r.accepted;
     cut = either r.cut (λ none. (none.0, none.1, ap unwatched none.2)) (λ some. (some.0, ap unwatched some.1));
@@ -203,8 +203,8 @@ module _ {D : Type 0} (is_lawful : D → Type 0) (state : D → DiskState) (fail
   }
   writes other old new r = absurd r
 
-  closes : (most : ℕ) (reply : Reply) (old new : Keeping D) → ClosesFree is_lawful state failures answers most reply old new
-      → ClosesFree is_lawful state failures answers most reply (unwatched old) (unwatched new)
+  closes : (most : ℕ) (reply : Reply) (old new : Keeping D) → ClosesFree view answers most reply old new
+      → ClosesFree view answers most reply (unwatched old) (unwatched new)
   closes most Closed old new r = record { accepted = r.accepted; same = ap unwatched r.same; closed = r.closed }
   closes most (Refused e back) old new r = record {
     no_batch = r.no_batch;
@@ -215,8 +215,8 @@ module _ {D : Type 0} (is_lawful : D → Type 0) (state : D → DiskState) (fail
   closes most other old new r = absurd r
 
   -- ONE COMMAND
-  obeys : (command : Command) (reply : Reply) (old new : Keeping D) → Obeys is_lawful state failures answers command reply old new
-      → Obeys is_lawful state failures answers command reply (unwatched old) (unwatched new)
+  obeys : (command : Command) (reply : Reply) (old new : Keeping D) → Obeys view answers command reply old new
+      → Obeys view answers command reply (unwatched old) (unwatched new)
   obeys (Submit batch) reply old new is = (submits batch reply old new is.0, may_write reply old new _ is.1)
   obeys (SubmitAs request batch) reply old new is = (submits_as request batch reply old new is.0, may_write reply old new _ is.1)
   obeys (SubmitAll group) reply old new is = (submits_all group reply old new is.0, may_write reply old new _ is.1)
@@ -231,8 +231,8 @@ module _ {D : Type 0} (is_lawful : D → Type 0) (state : D → DiskState) (fail
   obeys (CloseFree most) reply old new is = (closes most reply old new is.0, may_write reply old new _ is.1)
 
   -- COMMANDS, whatever watches are attached between them
-  pub driven_of : (commands : List Command) (replies : List Reply) (old new : Keeping D) → Obeyed is_lawful state failures answers commands replies old new
-      → Driven is_lawful state failures answers commands replies (unwatched old) (unwatched new)
+  pub driven_of : (commands : List Command) (replies : List Reply) (old new : Keeping D) → Obeyed view answers commands replies old new
+      → Driven view answers commands replies (unwatched old) (unwatched new)
   driven_of [] [] old new is = ap unwatched is.1
   driven_of [] (r ∷ rs) old new none = absurd none
   driven_of (c ∷ cs) [] old new none = absurd none
@@ -241,8 +241,8 @@ module _ {D : Type 0} (is_lawful : D → Type 0) (state : D → DiskState) (fail
       (unwatched mid, kept_unwatched answers mid is.2, obeys c r (record old { watch = is.0 }) mid is.3, driven_of cs rs mid new is.4)
 
   -- and back: a watch was attached, and then none changed
-  pub obeyed_from : (watch : Option View) (commands : List Command) (replies : List Reply) (old new : Keeping D) → Driven is_lawful state failures answers commands replies (record old { watch = watch }) new
-      → Obeyed is_lawful state failures answers commands replies old new
+  pub obeyed_from : (watch : Option View) (commands : List Command) (replies : List Reply) (old new : Keeping D) → Driven view answers commands replies (record old { watch = watch }) new
+      → Obeyed view answers commands replies old new
   obeyed_from watch [] [] old new is = (watch, is)
   obeyed_from watch [] (r ∷ rs) old new none = absurd none
   obeyed_from watch (c ∷ cs) [] old new none = absurd none
@@ -251,13 +251,13 @@ module _ {D : Type 0} (is_lawful : D → Type 0) (state : D → DiskState) (fail
       (watch, mid, is.1, is.2, obeyed_from mid.watch cs rs mid new is.3)
 
   -- or none changed at all
-  pub obeyed_of : (commands : List Command) (replies : List Reply) (old new : Keeping D) → Driven is_lawful state failures answers commands replies old new
-      → Obeyed is_lawful state failures answers commands replies old new
+  pub obeyed_of : (commands : List Command) (replies : List Reply) (old new : Keeping D) → Driven view answers commands replies old new
+      → Obeyed view answers commands replies old new
   obeyed_of commands replies old new is = obeyed_from old.watch commands replies old new is
 
   -- a watch may be attached before the first of them
-  attached : (watch : Option View) (commands : List Command) (replies : List Reply) (old new : Keeping D) → Obeyed is_lawful state failures answers commands replies (record old { watch = watch }) new
-      → Obeyed is_lawful state failures answers commands replies old new
+  attached : (watch : Option View) (commands : List Command) (replies : List Reply) (old new : Keeping D) → Obeyed view answers commands replies (record old { watch = watch }) new
+      → Obeyed view answers commands replies old new
   attached watch [] [] old new is = (is.0, is.1)
   attached watch [] (r ∷ rs) old new none = absurd none
   attached watch (c ∷ cs) [] old new none = absurd none
@@ -265,11 +265,11 @@ module _ {D : Type 0} (is_lawful : D → Type 0) (state : D → DiskState) (fail
 
   -- COMMANDS, A WATCH, AND COMMANDS
   pub obeyed_on : (watch : Option View) (commands : List Command) (replies : List Reply) (more : List Command) (others : List Reply) (old mid new : Keeping D)
-      → Obeyed is_lawful state failures answers commands replies old mid → Obeyed is_lawful state failures answers more others (record mid { watch = watch }) new
-      → Obeyed is_lawful state failures answers (commands ++ more) (replies ++ others) old new
+      → Obeyed view answers commands replies old mid → Obeyed view answers more others (record mid { watch = watch }) new
+      → Obeyed view answers (commands ++ more) (replies ++ others) old new
   obeyed_on watch [] [] more others old mid new is later =
       attached watch more others old new
-      (subst (λ (k : Keeping D). Obeyed is_lawful state failures answers more others (record k { watch = watch }) new) is.1 later)
+      (subst (λ (k : Keeping D). Obeyed view answers more others (record k { watch = watch }) new) is.1 later)
   obeyed_on watch [] (r ∷ rs) more others old mid new none later = absurd none
   obeyed_on watch (c ∷ cs) [] more others old mid new none later = absurd none
   obeyed_on watch (c ∷ cs) (r ∷ rs) more others old mid new is later = (is.0, is.1, is.2, is.3, obeyed_on watch cs rs more others is.1 mid new is.4 later)

@@ -3,25 +3,21 @@ use Rattle.std.specs.Prelude.{◌≡◌, ℕ, ◌<◌, ◌≤◌, Bool, true, Li
 use Rattle.std.specs.Io.KnownBytes.{Appends}
 use Rattle.td_plan.specs.Lines.{Line}
 use Rattle.td_calls.specs.Answers.{Answers}
-use Rattle.td_disk.specs.Disk.{DiskState}
+use Rattle.td_disk.specs.Disk.{DiskView, DiskState}
 use Rattle.td_journal.specs.declared.submitted.Submitted.{Submitted}
 use Rattle.td_keeper.specs.Acknowledged.{outs_of}
 use Rattle.td_console.specs.declared.faults.Fault.{Fault}
-use Rattle.td_feed.specs.Asked.{script_of}
+use Rattle.td_feed.specs.declared.streaming.StreamOptions.{StreamOptions}
 use Rattle.td_feed.specs.Fed.{TellsHistory}
 use Rattle.td_feed.specs.Held.{seen_after}
 use Rattle.td_feed.specs.Said.{out_lines}
-use Rattle.td_feed.specs.Session.{limit_of, StreamsDisk}
+use Rattle.td_feed.specs.Session.{script_by, StreamsDisk}
 use Rattle.td_theorem.specs.Life.{TellsAs}
 
--- A DELIVERY: a stream with marks that holds its outputs. Its epochs may have places; it may refuse epochs, those with more records than so many among them; it may
--- answer questions and make copies, and it may work alone. It has the disk that it was given, and the one that it left; what its writer held before and after; its input and its answer;
--- and what a crash left of its disk at some moment
+-- A DELIVERY: a stream with marks that holds its outputs, by its options and how many records an epoch may have; it may work alone. It has the disk that it was given, and the one that
+-- it left; what its writer held before and after; its input and its answer; and what a crash left of its disk at some moment
 pub record Delivery (D : Type 0) : Type 0 where
-  pub placing : Bool
-  pub refuse : Bool
-  pub questions : Bool
-  pub copies : Bool
+  pub options : StreamOptions
   pub records : ℕ
   pub alone : Bool
   pub disk : D
@@ -34,7 +30,7 @@ pub record Delivery (D : Type 0) : Type 0 where
 
 -- the last epoch that was seen, by its input, and by those of several, one after another
 abbrev pub seen_by : {D : Type 0} → List Line → ℕ → Delivery D → ℕ
-seen_by plan last d = seen_after last (script_of d.placing true d.questions d.copies (limit_of d.refuse d.records) plan d.input).orders
+seen_by plan last d = seen_after last (script_by d.options d.records plan d.input).orders
 
 abbrev pub seen_in_all : {D : Type 0} → List Line → ℕ → List (Delivery D) → ℕ
 seen_in_all plan last [] = last
@@ -58,16 +54,17 @@ pub record WritesAgain {D : Type 0} (answers : Answers) (plan : List Line) (last
   pub said : Appends d.before d.after text
   pub each : All (λ out. last < out.epoch → IsPart (out_lines true out) text) (outs_of answers plan history)
 
-module _ {D : Type 0} (is_lawful : D → Type 0) (state : D → DiskState) (failures : D → ℕ) (answers : Answers) (plan : List Line) where
+module _ {D : Type 0} (view : D → DiskView) (answers : Answers) (plan : List Line) where
   -- WHAT MAKES A DELIVERY: `stream` answers so on a lawful disk, and a crash leaves this image at any moment of it, in the middle of a write
   -- too, or after it
   pub record IsDelivery (d : Delivery D) : Type 0 where
-    pub lawful : is_lawful d.disk
-    pub streams : StreamsDisk is_lawful state failures answers true d.placing d.refuse true d.questions d.copies d.result plan d.alone d.disk d.left d.before d.after d.input
+    pub lawful : (view d.disk).lawful
+    pub holds : d.options.hold ≡ true
+    pub streams : StreamsDisk view answers true d.options d.result plan d.alone d.disk d.left d.before d.after d.input
     pub records : streams.records ≡ d.records
-    pub crashed : (state d.left).since (state d.disk).moment d.image
+    pub crashed : (view d.left).state.since (view d.disk).state.moment d.image
 
   -- DELIVERIES from one image to another: each on a disk that tells what the last one left
   abbrev pub Deliveries : List ℕ → List (Delivery D) → List ℕ → Type 0
   Deliveries from [] to = to ≡ from
-  Deliveries from (d ∷ more) to = TellsAs plan from (state d.disk) × IsDelivery d × Deliveries d.image more to
+  Deliveries from (d ∷ more) to = TellsAs plan from (view d.disk).state × IsDelivery d × Deliveries d.image more to

@@ -3,15 +3,15 @@ use Rattle.std.specs.Prelude.{◌≡◌, ℕ, true, List, [], ◌∷◌, ◌++�
 use Rattle.td_plan.specs.Lines.{Line}
 use Rattle.td_plan.specs.Faults.{IsPlan}
 use Rattle.td_calls.specs.Answers.{Answers}
-use Rattle.td_disk.specs.Disk.{DiskState}
+use Rattle.td_disk.specs.Disk.{DiskView, DiskState}
 use Rattle.td_head.specs.Layout.{Sizes}
 use Rattle.td_journal.specs.declared.submitted.Submitted.{Submitted}
 use Rattle.td_journal.specs.Numbers.{rise}
-use Rattle.td_standing.specs.Standing.{Standing, nothing_told}
-use Rattle.td_standing.specs.Stops.{Begins, Stands}
-use Rattle.td_standing.specs.Told.{Told}
-use Rattle.td_standing.specs.Tells.{Keeps, first_head}
-use Rattle.td_standing.specs.Advanced.{states_by}
+use Rattle.td_store.specs.standing.Standing.{Standing, nothing_told}
+use Rattle.td_store.specs.standing.Stops.{Begins, Stands}
+use Rattle.td_store.specs.standing.Told.{Told}
+use Rattle.td_store.specs.standing.Tells.{Keeps, first_head}
+use Rattle.td_store.specs.standing.Advanced.{states_by}
 use Rattle.td_keeper.specs.Acknowledged.{epochs_of, outs_of}
 use Rattle.td_theorem.specs.Life.{Stint, Life, submitted_in_stint, acknowledged_in_life, handed_in_life}
 use Rattle.td_theorem.specs.Comes.{ComesToTheRest}
@@ -34,7 +34,7 @@ pub record HoldsAll {D : Type 0} (answers : Answers) (plan : List Line) (life : 
   pub comes : ComesToTheRest answers plan standing history
 
 -- THE THEOREM: format a disk; let keepers stand on it, one after another, told anything, stopped anywhere; then this is so of it.
-abbrev pub TheTheorem : {D : Type 0} → (D → Type 0) → (D → DiskState) → (D → ℕ) → Answers → Type 0
-TheTheorem {D = D} is_lawful state failures answers = (plan : List Line) (sizes : Sizes) (formatted : D) (from to : List ℕ) (life : List (Stint D)) → IsPlan plan
-    → Keeps plan (first_head sizes) 0 nothing_told (state formatted) → (state formatted).images from
-    → Life is_lawful state failures answers plan from life to → HoldsAll answers plan life to
+abbrev pub TheTheorem : {D : Type 0} → (D → DiskView) → Answers → Type 0
+TheTheorem {D = D} view answers = (plan : List Line) (sizes : Sizes) (formatted : D) (from to : List ℕ) (life : List (Stint D)) → IsPlan plan
+    → Keeps plan (first_head sizes) 0 nothing_told (view formatted).state → (view formatted).state.images from
+    → Life view answers plan from life to → HoldsAll answers plan life to

@@ -3,14 +3,14 @@ use Rattle.std.specs.Prelude.{◌≡◌, ℕ, List, [], ◌∷◌, ◌++◌, Opt
 use Rattle.td_stamp.specs.declared.epoch_out.EpochOut.{EpochOut}
 use Rattle.td_plan.specs.Lines.{Line}
 use Rattle.td_calls.specs.Answers.{Answers}
-use Rattle.td_disk.specs.Disk.{DiskState}
+use Rattle.td_disk.specs.Disk.{DiskView, DiskState}
 use Rattle.td_gate.specs.CrashSafe.{CrashSafe, Unchanged}
 use Rattle.td_watch.specs.View.{View}
 use Rattle.td_journal.specs.declared.submitted.Submitted.{Submitted}
-use Rattle.td_standing.specs.Standing.{Standing}
-use Rattle.td_standing.specs.Told.{Told}
-use Rattle.td_standing.specs.Tells.{Keeps}
-use Rattle.td_standing.specs.Advanced.{HeldWhere}
+use Rattle.td_store.specs.standing.Standing.{Standing}
+use Rattle.td_store.specs.standing.Told.{Told}
+use Rattle.td_store.specs.standing.Tells.{Keeps}
+use Rattle.td_store.specs.standing.Advanced.{HeldWhere}
 use Rattle.td_keeper.specs.declared.command.Command.{Command}
 use Rattle.td_keeper.specs.declared.command.Reply.{Reply}
 use Rattle.td_keeper.specs.Keeping.{Keeping, IsKeeping, IsFreshlyOpened}
@@ -61,7 +61,7 @@ handed_in_life (s ∷ more) = handed_out s.replies ++ handed_in_life more
 abbrev pub TellsAs : List Line → List ℕ → DiskState → Type 0
 TellsAs plan image state = (c : List ℕ) (s : Standing) → state.images c → Told plan image (Ok s) → Told plan c (Ok s)
 
-module _ {D : Type 0} (is_lawful : D → Type 0) (state : D → DiskState) (failures : D → ℕ) (answers : Answers) where
+module _ {D : Type 0} (view : D → DiskView) (answers : Answers) where
   -- COMMANDS ARE OBEYED, one after another, each as its reply says. Before each of them, and after the last, another watch may be attached, or
   -- none: nothing else changes between them, and a keeper's memory is right.
   abbrev pub Obeyed : List Command → List Reply → Keeping D → Keeping D → Type 0
@@ -69,34 +69,34 @@ module _ {D : Type 0} (is_lawful : D → Type 0) (state : D → DiskState) (fail
   Obeyed [] (reply ∷ replies) old new = ⊥
   Obeyed (command ∷ commands) [] old new = ⊥
   Obeyed (command ∷ commands) (reply ∷ replies) old new =
-      (watch : Option View) × (mid : Keeping D) × IsKeeping mid answers × Obeys is_lawful state failures answers command reply (record old { watch = watch }) mid
+      (watch : Option View) × (mid : Keeping D) × IsKeeping mid answers × Obeys view answers command reply (record old { watch = watch }) mid
       × Obeyed commands replies mid new
 
-module _ {D : Type 0} (is_lawful : D → Type 0) (state : D → DiskState) (failures : D → ℕ) (answers : Answers) (plan : List Line) where
+module _ {D : Type 0} (view : D → DiskView) (answers : Answers) (plan : List Line) where
   -- WHAT MAKES A STINT: the keeper is found as recovery answers it, does as each reply says, and is stopped at any moment after.
   pub record IsStint (s : Stint D) : Type 0 where
     -- found: nothing was written, the disk keeps what the keeper stands for, and nothing is known beside it
-    pub unwritten : CrashSafe Unchanged (state s.disk) (state s.found.device)
-    pub lawful : is_lawful s.found.device
+    pub unwritten : CrashSafe Unchanged (view s.disk).state (view s.found.device).state
+    pub lawful : (view s.found.device).lawful
     pub for_plan : s.found.plan ≡ plan
-    pub keeps : Keeps plan s.found.head s.found.side s.found.standing (state s.found.device)
+    pub keeps : Keeps plan s.found.head s.found.side s.found.standing (view s.found.device).state
     pub fresh : IsFreshlyOpened s.found
     pub kept : IsKeeping s.found answers
     -- told commands, each with its reply; the disk then holds what the keeper stands for, as that of each keeper does
-    pub obeyed : Obeyed is_lawful state failures answers s.commands s.replies s.found s.stood
-    pub held : HeldWhere s.stood.broken answers s.stood.plan s.stood.head s.stood.side s.stood.standing (state s.stood.device)
+    pub obeyed : Obeyed view answers s.commands s.replies s.found s.stood
+    pub held : HeldWhere s.stood.broken answers s.stood.plan s.stood.head s.stood.side s.stood.standing (view s.stood.device).state
     -- stopped before more commands, in the middle of them, of a write too, or after them: what they come to, and what is left
-    pub stopped : Obeyed is_lawful state failures answers s.more s.unseen s.stood s.ended
-    pub crashed : (state s.ended.device).since (state s.stood.device).moment s.left
+    pub stopped : Obeyed view answers s.more s.unseen s.stood s.ended
+    pub crashed : (view s.ended.device).state.since (view s.stood.device).state.moment s.left
 
   -- A LIFE from one image to another: stints, one after another, each on a disk that tells what the last one left.
   abbrev pub Life : List ℕ → List (Stint D) → List ℕ → Type 0
   Life from [] to = to ≡ from
-  Life from (s ∷ more) to = TellsAs plan from (state s.disk) × IsStint s × Life s.left more to
+  Life from (s ∷ more) to = TellsAs plan from (view s.disk).state × IsStint s × Life s.left more to
 
   -- A RUN IS A STINT: commands that were given on a disk, with their replies, and the keeper that stood then. Whatever is given more, and
   -- whatever a crash leaves since, that makes a stint of it.
   abbrev pub IsRun : D → List Command → List Reply → Keeping D → Type 0
   IsRun disk commands replies stood = (found : Keeping D) × ((more : List Command) (unseen : List Reply) (ended : Keeping D) (left : List ℕ)
-      → Obeyed is_lawful state failures answers more unseen stood ended → (state ended.device).since (state stood.device).moment left
+      → Obeyed view answers more unseen stood ended → (view ended.device).state.since (view stood.device).state.moment left
       → IsStint (stint_of disk found commands replies stood more unseen ended left))

@@ -1,8 +1,8 @@
 //! Runs of a program on a disk, each a stint of a life.
 ghost use Rattle.std.specs.Prelude.{◌≡◌, ◌≤◌, ◌↔◌, [], ◌∷◌, ◌++◌, Option, IfSome};
 ghost use Rattle.td_head.specs.Layout.{size_of};
-ghost use Rattle.td_standing.specs.Standing.{nothing_told};
-ghost use Rattle.td_standing.specs.Tells.{Keeps, first_head};
+ghost use Rattle.td_store.specs.standing.Standing.{nothing_told};
+ghost use Rattle.td_store.specs.standing.Tells.{Keeps, first_head};
 ghost use Rattle.td_watch.specs.View.{View};
 ghost use Rattle.td_keeper.specs.Driven.{Driven};
 ghost use Rattle.td_theorem.specs.Life.{IsRun};
@@ -30,8 +30,8 @@ pub fn recover_and_drive<D: Disk + Drop, L: Law, K: Crew, R: Wait>(
     plan: &Plan,
     commands: Vec<Command>,
 ) -> Option<(Vec<Reply>, Keeper<D, L>)>
-    ensures { IfSome result (λ run. D.is_lawful disk
-        → IsRun D.is_lawful D.state D.failures L.answers plan.now disk commands.items run.0.items run.1) }
+    ensures { IfSome result (λ run. (D.view disk).lawful
+        → IsRun D.view L.answers plan.now disk commands.items run.0.items run.1) }
 {
     watches_come_and_go::<D, L>();
     let Ok(mut keeper) = Keeper::recover(alloc, disk, plan) else {
@@ -57,8 +57,8 @@ pub fn recover_and_watch<D: Disk + Drop, L: Law, K: Crew, R: Wait>(
     after: Vec<Command>,
 ) -> Option<(Vec<Reply>, Vec<Reply>, Keeper<D, L>)>
     requires { writer.words ≡ 0 ∷ 0 ∷ 0 ∷ [] }
-    ensures { IfSome result (λ run. D.is_lawful disk
-        → IsRun D.is_lawful D.state D.failures L.answers plan.now disk (before.items ++ after.items) (run.0.items ++ run.1.items) run.2) }
+    ensures { IfSome result (λ run. (D.view disk).lawful
+        → IsRun D.view L.answers plan.now disk (before.items ++ after.items) (run.0.items ++ run.1.items) run.2) }
 {
     watches_come_and_go::<D, L>();
     let Ok(mut keeper) = Keeper::recover(alloc, disk, plan) else {
@@ -96,8 +96,8 @@ fn replies_to<D: Disk + Drop, L: Law, K: Crew, R: Wait>(
     keeper: &mut Keeper<D, L>,
     asked: Vec<Command>,
 ) -> Option<Vec<Reply>>
-    ensures driven { IfSome result (λ replies. Driven D.is_lawful D.state D.failures L.answers asked.items replies.items keeper.old keeper.new) }
-    ensures lawful { D.is_lawful keeper.old.device ↔ D.is_lawful keeper.new.device }
+    ensures driven { IfSome result (λ replies. Driven D.view L.answers asked.items replies.items keeper.old keeper.new) }
+    ensures lawful { (D.view keeper.old.device).lawful ↔ (D.view keeper.new.device).lawful }
 {
     let Ok(replies) = keeper.drive(rt, pool, asked) else {
         return None;
@@ -116,10 +116,10 @@ pub fn format_and_drive<D: Disk + Drop, L: Law, K: Crew, R: Wait>(
     shape: Shape,
     first: Vec<Command>,
 ) -> Option<(Vec<Reply>, Keeper<D, L>)>
-    requires { size_of shape ≤ D.capacity disk }
-    ensures { IfSome result (λ run. D.is_lawful disk
-        → (formatted : D) × Keeps plan.now (first_head shape) 0 nothing_told (D.state formatted)
-        × IsRun D.is_lawful D.state D.failures L.answers plan.now formatted first.items run.0.items run.1) }
+    requires { size_of shape ≤ (D.view disk).capacity }
+    ensures { IfSome result (λ run. (D.view disk).lawful
+        → (formatted : D) × Keeps plan.now (first_head shape) 0 nothing_told (D.view formatted).state
+        × IsRun D.view L.answers plan.now formatted first.items run.0.items run.1) }
 {
     lives_go_on::<D>();
     watches_come_and_go::<D, L>();

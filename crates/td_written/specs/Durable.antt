@@ -4,11 +4,12 @@ use Rattle.td_plan.specs.Lines.{Line as PlanLine}
 use Rattle.td_plan.specs.Blocks.{vertices}
 use Rattle.td_calls.specs.declared.error.CallsError.{CallsError}
 use Rattle.td_calls.specs.Fits.{first_lack}
-use Rattle.td_disk.specs.Disk.{DiskState}
+use Rattle.td_disk.specs.Disk.{DiskView, DiskState}
 use Rattle.td_console.specs.declared.faults.Fault.{Fault}
 use Rattle.td_console.specs.Answer.{Stored, lack_fault}
 use Rattle.td_feed.specs.Orders.{orders_of, submitted_by}
 use Rattle.td_feed.specs.Said.{epochs_alone}
+use Rattle.td_feed.specs.declared.streaming.StreamOptions.{StreamOptions}
 use Rattle.td_feed.specs.Copied.{Copied}
 use Rattle.td_feed.specs.Session.{KeepsDisk, FeedsDisk, StreamsCopying, SeesOrNot}
 
@@ -16,33 +17,33 @@ use Rattle.td_feed.specs.Session.{KeepsDisk, FeedsDisk, StreamsCopying, SeesOrNo
 abbrev pub lack_in : Stored → List PlanLine → Option CallsError
 lack_in stored plan = first_lack stored.has_map stored.has_group stored.has_fold (vertices plan)
 
-module _ (stored : Stored) {D S T : Type 0} (capacity : D → ℕ) (is_lawful : D → Type 0) (state : D → DiskState) (failures : D → ℕ)
+module _ (stored : Stored) {D S T : Type 0} (view : D → DiskView)
     (remaining : S → Option (List ℕ)) (contents : T → Option (List ℕ)) (marks : Bool) (plan : List PlanLine) where
   -- A FEED, of a disk before and after, of a reader and a writer before and after, and of its answer
   pub record FeedsBy (disk left : D) (reader read : S) (writer written : T) (result : Result (Unit {0}) Fault) : Type 0 where
-    pub disk_is_kept : KeepsDisk capacity is_lawful failures result disk left
+    pub disk_is_kept : KeepsDisk view result disk left
     -- a closure that the store lacks comes first: nothing is read or written
     pub lack : IfSome (lack_in stored plan) (λ lack. (result ≡ Err (lack_fault lack)) × (left ≡ disk) × (read ≡ reader) × (written ≡ writer))
     pub fits : OnOk result (lack_in stored plan ≡ None)
     -- an input with a fault answers an error, with nothing written to the writer; and what it asks for is fed
     pub fault : IfSome (remaining reader) (λ input. IfErr (orders_of plan input) (λ _. IsErr result × (written ≡ writer)))
     pub fed : lack_in stored plan ≡ None
-        → IfSome (remaining reader) (λ input. FeedsDisk is_lawful state failures stored.answers marks result plan false disk left
+        → IfSome (remaining reader) (λ input. FeedsDisk view stored.answers marks result plan false disk left
         (contents writer) (contents written) (epochs_alone (submitted_by (orders_of plan input))))
 
-module _ (stored : Stored) {D S T E H : Type 0} (capacity : D → ℕ) (is_lawful : D → Type 0) (state : D → DiskState) (failures : D → ℕ)
+module _ (stored : Stored) {D S T E H : Type 0} (view : D → DiskView)
     (remaining : S → Option (List ℕ)) (contents : T → Option (List ℕ)) (marks : Bool)
-    (is_new_lawful : E → Type 0) (new_state : E → DiskState) (copies_of : H → Option (List (Copied E))) (seen_of : H → Option ℕ) (plan : List PlanLine) where
+    (new_view : E → DiskView) (copies_of : H → Option (List (Copied E))) (seen_of : H → Option ℕ) (plan : List PlanLine) where
   -- A STREAM, whose epochs may have places or not, that refuses epochs or not, holds outputs or not, answers questions or not and makes copies or not, by one worker or by several, of a disk before and after, of its reader, of a writer before and after, of a host before and after, and of its answer
-  pub record StreamsBy (placing refuse hold questions copies alone : Bool) (disk left : D) (reader : S) (writer written : T) (host told : H) (result : Result (Unit {0}) Fault) : Type 0 where
-    pub disk_is_kept : KeepsDisk capacity is_lawful failures result disk left
+  pub record StreamsBy (how : StreamOptions) (alone : Bool) (disk left : D) (reader : S) (writer written : T) (host told : H) (result : Result (Unit {0}) Fault) : Type 0 where
+    pub disk_is_kept : KeepsDisk view result disk left
     -- a closure that the store lacks comes first: nothing is written
     pub lack : IfSome (lack_in stored plan) (λ lack. (result ≡ Err (lack_fault lack)) × (left ≡ disk) × (written ≡ writer) × (told ≡ host))
     pub fits : OnOk result (lack_in stored plan ≡ None)
     -- what the input asks for is fed, by one worker until all outputs went out
     pub fed : lack_in stored plan ≡ None
-        → IfSome (remaining reader) (λ input. StreamsCopying is_lawful state failures stored.answers marks is_new_lawful new_state placing refuse hold questions copies result plan alone disk left
+        → IfSome (remaining reader) (λ input. StreamsCopying view stored.answers marks new_view how result plan alone disk left
         (contents writer) (contents written) (copies_of host) (copies_of told) input)
     -- and the host is told what was seen
     pub seen : lack_in stored plan ≡ None
-        → IfSome (remaining reader) (λ input. SeesOrNot is_lawful state placing refuse hold questions copies result plan disk (seen_of host) (seen_of told) input)
+        → IfSome (remaining reader) (λ input. SeesOrNot view how result plan disk (seen_of host) (seen_of told) input)

@@ -36,7 +36,7 @@ pub fn feed<
 ) -> (D, Result<(), Fault>)
     requires some { 1 ≤ workers }
     requires most { workers ≤ 16 }
-    ensures { FeedsBy (stored_beside L.answers C.has_map C.has_group C.has_fold below closures.items) D.capacity D.is_lawful D.state D.failures I.remaining
+    ensures { FeedsBy (stored_beside L.answers C.has_map C.has_group C.has_fold below closures.items) D.view I.remaining
         W.contents W.marks plan.now disk result.0 reader.old reader.new writer.old writer.new result.1 }
 {
     feed_by::<Brand, D, I, W, L, C, R>(
@@ -70,8 +70,8 @@ pub fn stream<
     requires some { 1 ≤ workers }
     requires most { workers ≤ 16 }
     requires unpublished { IfSome watch (λ w. w.words ≡ 0 ∷ 0 ∷ 0 ∷ []) }
-    ensures { StreamsBy (stored_beside L.answers C.has_map C.has_group C.has_fold below closures.items) D.capacity D.is_lawful D.state D.failures I.remaining
-        W.contents W.marks H.New.is_lawful H.New.state H.copies H.seen plan.now options.placing options.refuse options.hold options.questions options.copies (workers == 1) disk result.0 reader writer.old writer.new host.old host.new result.1 }
+    ensures { StreamsBy (stored_beside L.answers C.has_map C.has_group C.has_fold below closures.items) D.view I.remaining
+        W.contents W.marks H.New.view H.copies H.seen plan.now options (workers == 1) disk result.0 reader writer.old writer.new host.old host.new result.1 }
 {
     stream_by::<Brand, D, I, W, H, L, C, R>(
         rt, alloc, disk, plan, workers, options, reader, writer, watch, host, below, closures,
@@ -101,7 +101,7 @@ fn feed_by<
     requires stand { closures.items ≡ F.closures }
     requires some { 1 ≤ workers }
     requires most { workers ≤ 16 }
-    ensures { FeedsBy (stored_beside L.answers C.has_map C.has_group C.has_fold below F.closures) D.capacity D.is_lawful D.state D.failures I.remaining
+    ensures { FeedsBy (stored_beside L.answers C.has_map C.has_group C.has_fold below F.closures) D.view I.remaining
         W.contents W.marks plan.now disk result.0 reader.old reader.new writer.old writer.new result.1 }
 {
     let above = WrittenCalls::<F>::new(closures);
@@ -139,8 +139,8 @@ fn stream_by<
     requires some { 1 ≤ workers }
     requires most { workers ≤ 16 }
     requires unpublished { IfSome watch (λ w. w.words ≡ 0 ∷ 0 ∷ 0 ∷ []) }
-    ensures { StreamsBy (stored_beside L.answers C.has_map C.has_group C.has_fold below F.closures) D.capacity D.is_lawful D.state D.failures I.remaining
-        W.contents W.marks H.New.is_lawful H.New.state H.copies H.seen plan.now options.placing options.refuse options.hold options.questions options.copies (workers == 1) disk result.0 reader writer.old writer.new host.old host.new result.1 }
+    ensures { StreamsBy (stored_beside L.answers C.has_map C.has_group C.has_fold below F.closures) D.view I.remaining
+        W.contents W.marks H.New.view H.copies H.seen plan.now options (workers == 1) disk result.0 reader writer.old writer.new host.old host.new result.1 }
 {
     let above = WrittenCalls::<F>::new(closures);
     let calls = BesideCalls { below, above };

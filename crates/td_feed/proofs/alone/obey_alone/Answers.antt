@@ -3,7 +3,7 @@ use Rattle.std.specs.Prelude.{Ok, Err, OnOk}
 use Rattle.std.specs.Option.{IfSome}
 use Rattle.std.proofs.lemmas.Option.{IfSome_then}
 use Rattle.td_console.specs.declared.faults.Fault.TheVariants.{Memory}
-use Rattle.td_standing.specs.Standing.{last_epoch, last_request}
+use Rattle.td_store.specs.standing.Standing.{last_epoch, last_request}
 use Rattle.td_keeper.specs.Keeping.{Keeping}
 use Rattle.td_feed.specs.Said.{IsAllOut}
 use Rattle.td_feed.specs.Session.{KeepsDisk, FeedsScript}
@@ -28,25 +28,22 @@ pub returns-in-Err-clause-fed : goal.returns-in-Err-clause-fed
 returns-in-Err-clause-fed g c =
     let w = g.W.Sink.contents c.args.writer.now in
     in_some_is (g.S.Asking.script (last_epoch c.args.keeper.standing) (last_request c.args.keeper.standing) c.args.orders)
-    (λ s is. subst (λ (k : Keeping g.row.D.Denot). FeedsScript g.D.Disk.is_lawful g.D.Disk.state g.D.Disk.failures g.L.Law.answers g.W.Voice.marks g.H.New.Disk.is_lawful g.H.New.Disk.state (Err Memory) w w (g.H.Host.copies c.args.host.now) (g.H.Host.copies c.args.host.now) c.args.keeper k s) (sym c.in-Err.ensures.refused.1) (none_fed Memory c.requires.whole))
+    (λ s is. subst (λ (k : Keeping g.row.D.Denot). FeedsScript g.D.Disk.view g.L.Law.answers g.W.Voice.marks g.H.New.Disk.view (Err Memory) w w (g.H.Host.copies c.args.host.now) (g.H.Host.copies c.args.host.now) c.args.keeper k s) (sym c.in-Err.ensures.refused.1) (none_fed Memory c.requires.whole))
 
 pub returns-clause-disk : goal.returns-clause-disk
 returns-clause-disk g c =
     let new = c.into_keeper-keeper.result.0 in
     let r = c.ended_as.result in
-    subst (λ (k : Keeping g.row.D.Denot). KeepsDisk g.D.Disk.capacity g.D.Disk.is_lawful g.D.Disk.failures r k.device new.device) c.in-Ok.ensures.same
-    (subst (λ (k : Keeping g.row.D.Denot). KeepsDisk g.D.Disk.capacity g.D.Disk.is_lawful g.D.Disk.failures r c.in-Ok.engine.keeping.device k.device) (sym c.into_keeper-keeper.ensures)
+    subst (λ (k : Keeping g.row.D.Denot). KeepsDisk g.D.Disk.view r k.device new.device) c.in-Ok.ensures.same
+    (subst (λ (k : Keeping g.row.D.Denot). KeepsDisk g.D.Disk.view r c.in-Ok.engine.keeping.device k.device) (sym c.into_keeper-keeper.ensures)
     (disk_ended c.obey_each-obeyed.result r c.worked_until.result c.ended_as.ensures.ok c.ended_as.ensures.err c.obey_each-obeyed.ensures.disk))
 
 pub returns-clause-fed : goal.returns-clause-fed
 returns-clause-fed g c =
-    let is_lawful = g.D.Disk.is_lawful in
-    let state = g.D.Disk.state in
-    let failures = g.D.Disk.failures in
+    let view = g.D.Disk.view in
     let answers = g.L.Law.answers in
     let marks = g.W.Voice.marks in
-    let lawful_new = g.H.New.Disk.is_lawful in
-    let state_new = g.H.New.Disk.state in
+    let new_view = g.H.New.Disk.view in
     let had = g.H.Host.copies c.args.host.now in
     let has = g.H.Host.copies c.obey_each-obeyed.new.host in
     let u = g.W.Sink.contents c.args.writer.now in
@@ -55,9 +52,9 @@ returns-clause-fed g c =
     let obeyed = c.obey_each-obeyed.result in
     let r = c.ended_as.result in
     let script = λ (k : Keeping g.row.D.Denot). g.S.Asking.script (last_epoch k.standing) (last_request k.standing) c.args.orders in
-    subst (λ (k : Keeping g.row.D.Denot). IfSome (script k) (λ s. FeedsScript is_lawful state failures answers marks lawful_new state_new r u v had has k new s)) c.in-Ok.ensures.same
+    subst (λ (k : Keeping g.row.D.Denot). IfSome (script k) (λ s. FeedsScript view answers marks new_view r u v had has k new s)) c.in-Ok.ensures.same
     (IfSome_then (script c.in-Ok.engine.keeping) c.obey_each-obeyed.ensures.fed
-    (λ s fed. subst (λ (k : Keeping g.row.D.Denot). FeedsScript is_lawful state failures answers marks lawful_new state_new r u v had has c.in-Ok.engine.keeping k s) (sym c.into_keeper-keeper.ensures)
+    (λ s fed. subst (λ (k : Keeping g.row.D.Denot). FeedsScript view answers marks new_view r u v had has c.in-Ok.engine.keeping k s) (sym c.into_keeper-keeper.ensures)
     (fed_ended obeyed r c.worked_until.result c.ended_as.ensures.ok c.ended_as.ensures.err fed)))
 
 pub returns-clause-all_out : goal.returns-clause-all_out

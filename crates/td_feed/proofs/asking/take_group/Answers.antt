@@ -3,7 +3,7 @@ use Rattle.std.proofs.lemmas.Grind.{common_steps}
 use Rattle.std.specs.Prelude.{Some, max}
 use Rattle.td_journal.specs.Numbers.{greatest, may_come}
 use Rattle.td_journal.specs.declared.submitted.Submitted.{Submitted}
-use Rattle.td_group.specs.Groups.{may_follow}
+use Rattle.td_store.specs.group.Groups.{may_follow}
 use Rattle.td_feed.specs.declared.order.Order.{Order}
 use Rattle.td_feed.specs.Orders.{submissions}
 use Rattle.td_feed.proofs.Newness.{greatest-append, one_follows}

@@ -1,11 +1,11 @@
 use Rattle.std.proofs.Common.{◌≡◌, ◌∷◌, [], Bool, sym, ap, ◌∙◌, subst}
 use Rattle.td_plan.specs.Lines.{Line}
 use Rattle.std.specs.Prelude.{List}
-use Rattle.td_standing.specs.Standing.{Standing}
-use Rattle.td_standing.specs.Tells.{Keeps, first_head}
-use Rattle.td_standing.specs.Read.{standing_of}
-use Rattle.td_standing.specs.Advanced.{HeldWhere}
-use Rattle.td_copy.specs.Copied.{IsRising}
+use Rattle.td_store.specs.standing.Standing.{Standing}
+use Rattle.td_store.specs.standing.Tells.{Keeps, first_head}
+use Rattle.td_store.specs.standing.Read.{standing_of}
+use Rattle.td_store.specs.standing.Advanced.{HeldWhere}
+use Rattle.td_store.specs.copy.Copied.{IsRising}
 use Rattle.td_feed.specs.Copied.{with_copies}
 use Rattle.td_feed.proofs.copying.copied.Goals as goal
 
@@ -20,12 +20,12 @@ returns-in-Ok-write_told-clause-copied g c =
         disk,
         c.keep.ensures.copies ∙ ap (λ had. with_copies had (record { name = c.args.copy.now.name; epoch = c.last_epoch-epoch.result; disk = disk } ∷ [])) c.make.ensures.copies,
         λ lawful new_lawful.
-            let held : Keeps k.plan k.head k.side k.standing (g.D.Disk.state k.device) =
-            subst (λ (b : Bool). HeldWhere b g.L.Law.answers k.plan k.head k.side k.standing (g.D.Disk.state k.device)) c.requires.whole (c.each_disk_holds.ensures lawful) in
-            let rising : IsRising k.standing = c.told_rises.ensures k.plan k.head k.side k.standing (g.D.Disk.state k.device).bytes held.tells in
-            subst (λ (p : List Line). Keeps p (first_head c.args.copy.now.shape) 0 k.standing (g.H.New.Disk.state disk)) c.plan.ensures
-            (subst (λ (s : Standing). Keeps c.plan.result.now (first_head c.args.copy.now.shape) 0 s (g.H.New.Disk.state disk)) stands
-            (c.in-Ok-write_told.ensures.copied (c.write_told.ensures.lawful.1 new_lawful) (subst IsRising (sym stands) rising))),
+            let held : Keeps k.plan k.head k.side k.standing (g.D.Disk.view k.device).state =
+            subst (λ (b : Bool). HeldWhere b g.L.Law.answers k.plan k.head k.side k.standing (g.D.Disk.view k.device).state) c.requires.whole (c.each_disk_holds.ensures lawful) in
+            let rising : IsRising k.standing = c.told_rises.ensures k.plan k.head k.side k.standing (g.D.Disk.view k.device).state.bytes held.tells in
+            subst (λ (p : List Line). Keeps p (first_head c.args.copy.now.shape) 0 k.standing (g.H.New.Disk.view disk).state) c.plan.ensures
+            (subst (λ (s : Standing). Keeps c.plan.result.now (first_head c.args.copy.now.shape) 0 s (g.H.New.Disk.view disk).state) stands
+            (c.in-Ok-write_told.ensures.copied (c.write_told.ensures.device.lawful.1 new_lawful) (subst IsRising (sym stands) rising))),
       ),
     )
 

@@ -1,6 +1,6 @@
 use Rattle.std.proofs.Common.{[], ◌∷◌, refl, ap, subst, sym}
 use Rattle.std.specs.Prelude.{Option, List, Some, None}
-use Rattle.td_standing.specs.Tells.{first_head}
+use Rattle.td_store.specs.standing.Tells.{first_head}
 use Rattle.td_feed.specs.Noted.Aside.{to_copy}
 use Rattle.td_feed.specs.Said.{copied_line, not_copied_line}
 use Rattle.td_feed.specs.Copied.{Copied, why_text}
@@ -12,9 +12,7 @@ use Rattle.td_feed.proofs.copying.copy_aloud.Goals as goal
 
 pub returns-in-Ok-clause-fed : goal.returns-in-Ok-clause-fed
 returns-in-Ok-clause-fed g c marks =
-    let is_lawful = g.D.Disk.is_lawful in
-    let state = g.D.Disk.state in
-    let failures = g.D.Disk.failures in
+    let view = g.D.Disk.view in
     let answers = g.L.Law.answers in
     let k = c.args.keeper.now in
     let name = c.args.copy.now.name in
@@ -25,9 +23,9 @@ returns-in-Ok-clause-fed g c marks =
       done = to_copy name shape (Some epoch) ∷ [];
       came = refl;
       fed = fed_line c.say_copied.result (copied_line name epoch) (to_copy name shape (Some epoch) ∷ []) c.requires.whole
-          (says_copied is_lawful state failures answers marks (g.W.Sink.contents c.args.writer.now) (g.W.Sink.contents c.say_copied.new.writer) name shape epoch k)
+          (says_copied view answers marks (g.W.Sink.contents c.args.writer.now) (g.W.Sink.contents c.say_copied.new.writer) name shape epoch k)
           c.say_copied.ensures.said c.say_copied.ensures.unsaid (λ same. ap g.W.Sink.contents same);
-      copied = one_made is_lawful g.H.New.Disk.is_lawful g.H.New.Disk.state answers name epoch made.1.0 (g.H.Host.copies c.args.host.now) (g.H.Host.copies c.copied.new.host) k (first_head shape) 0
+      copied = one_made view g.H.New.Disk.view answers name epoch made.1.0 (g.H.Host.copies c.args.host.now) (g.H.Host.copies c.copied.new.host) k (first_head shape) 0
           (λ image tells. c.told_in_parts.ensures.together k.plan (first_head shape) 0 k.standing image tells) made.1.1 made.0 made.1.2;
     }
 
@@ -40,8 +38,8 @@ returns-in-Err-clause-fed g c marks =
     let u = g.W.Sink.contents c.args.writer.now in
     let v = g.W.Sink.contents c.say_not_copied.new.writer in
     let had = g.H.Host.copies c.args.host.now in
-    subst (λ (has : Option (List (Copied g.row.H-New.Denot))). FeedsCopying g.D.Disk.is_lawful g.D.Disk.state g.D.Disk.failures g.L.Law.answers marks g.H.New.Disk.is_lawful g.H.New.Disk.state c.say_not_copied.result u v had has k k [] (to_copy name shape None ∷ [])) (sym c.in-Err.ensures.none)
+    subst (λ (has : Option (List (Copied g.row.H-New.Denot))). FeedsCopying g.D.Disk.view g.L.Law.answers marks g.H.New.Disk.view c.say_not_copied.result u v had has k k [] (to_copy name shape None ∷ [])) (sym c.in-Err.ensures.none)
     (fed_uncopied (to_copy name shape None ∷ []) refl refl
     (fed_line c.say_not_copied.result (not_copied_line name why) (to_copy name shape None ∷ []) c.requires.whole
-    (says_not_copied g.D.Disk.is_lawful g.D.Disk.state g.D.Disk.failures g.L.Law.answers marks u v name shape why k)
+    (says_not_copied g.D.Disk.view g.L.Law.answers marks u v name shape why k)
     c.say_not_copied.ensures.said c.say_not_copied.ensures.unsaid (λ same. ap g.W.Sink.contents same)))

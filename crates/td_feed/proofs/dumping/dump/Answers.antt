@@ -4,10 +4,10 @@ use Rattle.std.specs.Io.KnownBytes.{Appends}
 use Rattle.td_disk.specs.Disk.{IsDurable, Rises}
 use Rattle.td_gate.specs.Reading.{Each}
 use Rattle.td_journal.specs.declared.submitted.Submitted.{Submitted}
-use Rattle.td_standing.specs.declared.error.KeeperError.{KeeperError}
-use Rattle.td_standing.specs.declared.error.KeeperError.TheVariants.{Device}
-use Rattle.td_standing.specs.Read.{Refused, standing_of}
-use Rattle.td_standing.specs.Told.{Told}
+use Rattle.td_store.specs.declared.standing.error.KeeperError.{KeeperError}
+use Rattle.td_store.specs.declared.standing.error.KeeperError.TheVariants.{Device}
+use Rattle.td_store.specs.standing.Read.{Refused, standing_of}
+use Rattle.td_store.specs.standing.Told.{Told}
 use Rattle.td_console.specs.declared.faults.Fault.{Fault}
 use Rattle.td_console.specs.declared.faults.Fault.TheVariants.{Output, Memory, Keeper}
 use Rattle.td_console.specs.Refusals.{keeper_fault}
@@ -20,14 +20,14 @@ use Rattle.td_feed.proofs.dumping.dump.Goals as goal
 pub returns-in_err-_plan-clause-refused : goal.returns-in_err-_plan-clause-refused
 returns-in_err-_plan-clause-refused g c =
     let new = c.recover_device.new.device in
-    let state = g.D.Disk.state in
+    let view = g.D.Disk.view in
     let e = c.in_err-_plan.field-0.0 in
-    let rose = Rises (g.D.Disk.failures c.args.disk.now) (g.D.Disk.failures new) in
-    let tells = λ (d : KeeperError). g.D.Disk.is_lawful c.args.disk.now → IsDurable (state new) × Told c.args.plan.now (state new).bytes (Refused d) in
+    let rose = Rises (g.D.Disk.view c.args.disk.now).failures (g.D.Disk.view new).failures in
+    let tells = λ (d : KeeperError). (g.D.Disk.view c.args.disk.now).lawful → IsDurable (view new).state × Told c.args.plan.now (view new).state.bytes (Refused d) in
     if_err c.from_residual.result (λ (f : Fault). f ≡ keeper_fault e)
     (λ (f : Fault). (f ≡ Output) ⊎ ((f ≡ Memory) ⊎ (((f ≡ Keeper Device) × rose) ⊎ IsRefusedAs f tells)))
     c.from_residual.ensures.1
-    (λ f is. inr (refused rose tells e f is (λ device. c.in_err-_plan.ensures.device (λ i. Err (device i))) c.in_err-_plan.ensures.refused))
+    (λ f is. inr (refused rose tells e f is (λ device. c.in_err-_plan.ensures.device.counts.rises (λ i. Err (device i))) c.in_err-_plan.ensures.refused))
 
 pub returns-clause-dumped : goal.returns-clause-dumped
 returns-clause-dumped g c =
@@ -52,6 +52,6 @@ returns-clause-dumped g c =
       asks = c.dumps_are_fed.ensures.asks plan read.head read.checkpoint.slot s c.vertices-vertices.ensures.lawful c.in_ok-_plan.ensures.may_stand
           (subst (λ (y : List Submitted). Each FitsLines y) x c.in_ok-write_epochs.ensures.fits);
       keeps = λ lawful. c.in_ok-_plan.ensures.kept lawful;
-      new = λ lawful. c.dumps_are_fed.ensures.new plan read.head read.checkpoint.slot s (g.D.Disk.state c.recover_device.new.device).bytes (c.in_ok-_plan.ensures.kept lawful).tells;
+      new = λ lawful. c.dumps_are_fed.ensures.new plan read.head read.checkpoint.slot s (g.D.Disk.view c.recover_device.new.device).state.bytes (c.in_ok-_plan.ensures.kept lawful).tells;
     })
     c.write_answer.ensures.written

@@ -4,11 +4,11 @@ use Rattle.td_plan.specs.Lines.{Line}
 use Rattle.td_disk.specs.Disk.{Rises, IsDurable}
 use Rattle.td_gate.specs.CrashSafe.{CrashSafe, Unchanged}
 use Rattle.td_journal.specs.declared.submitted.Submitted.{Submitted}
-use Rattle.td_standing.specs.declared.error.KeeperError.{KeeperError}
-use Rattle.td_standing.specs.Told.{Told}
-use Rattle.td_standing.specs.Read.{Refused}
-use Rattle.td_standing.specs.Stops.{Stands}
-use Rattle.td_standing.specs.Advanced.{states_by, HeldWhere}
+use Rattle.td_store.specs.declared.standing.error.KeeperError.{KeeperError}
+use Rattle.td_store.specs.standing.Told.{Told}
+use Rattle.td_store.specs.standing.Read.{Refused}
+use Rattle.td_store.specs.standing.Stops.{Stands}
+use Rattle.td_store.specs.standing.Advanced.{states_by, HeldWhere}
 use Rattle.td_journal.specs.Numbers.{greatest}
 use Rattle.td_keeper.specs.Keeping.{Keeping}
 use Rattle.td_feed.specs.Orders.{orders_of, submitted_by, new_after}
@@ -37,23 +37,22 @@ returns-in-Err-recover-clause-disk g c = disk_refused c.in-Err-recover.refusal c
 pub returns-in-Err-recover-clause-fed : goal.returns-in-Err-recover-clause-fed
 returns-in-Err-recover-clause-fed g c = λ fits.
     let recover = c.in-Err-recover.ensures in
-    let state = g.D.Disk.state in
+    let view = g.D.Disk.view in
     let new = c.in-Err-recover.disk in
-    let rose = Rises (g.D.Disk.failures c.args.disk) (g.D.Disk.failures new) in
-    let tells = λ (e : KeeperError). g.D.Disk.is_lawful c.args.disk → IsDurable (state new) × Told c.args.plan.now (state new).bytes (Refused e) in
+    let rose = Rises (g.D.Disk.view c.args.disk).failures (g.D.Disk.view new).failures in
+    let tells = λ (e : KeeperError). (g.D.Disk.view c.args.disk).lawful → IsDurable (view new).state × Told c.args.plan.now (view new).state.bytes (Refused e) in
     in_some (g.I.Source.remaining c.args.reader.now)
     (λ input. record {
       fed = tt;
       safe = λ lawful history told.
-          let state = g.D.Disk.state in
           let answers = g.L.Law.answers in
           let old = c.args.disk in
           let new = c.in-Err-recover.disk in
           let plan = c.args.plan.now in
-          let safe : CrashSafe Unchanged (state old) (state new) = c.in-Err-recover.ensures.crash_safe lawful in
-          none_more answers plan history (new_after (greatest 0 history) (submitted_by (orders_of plan input))) (state new)
-          (still_each answers plan history (state old) (state new) safe
-          (λ i image. g.met.D.Disk.counts_now new (state old).moment i (c.in-Err-recover.ensures.device.lawful.0 lawful) safe.later image) told);
+          let safe : CrashSafe Unchanged (view old).state (view new).state = c.in-Err-recover.ensures.crash_safe lawful in
+          none_more answers plan history (new_after (greatest 0 history) (submitted_by (orders_of plan input))) (view new).state
+          (still_each answers plan history (view old).state (view new).state safe
+          (λ i image. g.met.D.Disk.counts_now new (view old).state.moment i (c.in-Err-recover.ensures.device.lawful.0 lawful) safe.later image) told);
       said = inl (record {
         refused = refused rose tells c.in-Err-recover.refusal c.from.result c.from.ensures (λ failed. recover.device.counts.rises (ap (refused_by (Keeping g.row.D.Denot)) failed)) recover.refused;
         unwritten = recover.crash_safe;
@@ -63,18 +62,14 @@ returns-in-Err-recover-clause-fed g c = λ fits.
 
 pub returns-clause-disk : goal.returns-clause-disk
 returns-clause-disk g c =
-    let capacity = g.D.Disk.capacity in
-    let is_lawful = g.D.Disk.is_lawful in
-    let failures = g.D.Disk.failures in
+    let view = g.D.Disk.view in
     let r = c.obey-keeper.result.1 in
-    subst (λ (d : g.row.D.Denot). KeepsDisk capacity is_lawful failures r c.args.disk d) (sym c.into_disk.ensures.disk)
+    subst (λ (d : g.row.D.Denot). KeepsDisk view r c.args.disk d) (sym c.into_disk.ensures.disk)
     (disk_then (disk_recovered c.in-Ok.ensures.device) c.obey-keeper.ensures.disk)
 
 pub returns-clause-fed : goal.returns-clause-fed
 returns-clause-fed g c = λ fits.
-    let is_lawful = g.D.Disk.is_lawful in
-    let state = g.D.Disk.state in
-    let failures = g.D.Disk.failures in
+    let view = g.D.Disk.view in
     let answers = g.L.Law.answers in
     let marks = g.W.Voice.marks in
     let plan = c.args.plan.now in
@@ -88,31 +83,31 @@ returns-clause-fed g c = λ fits.
     IfSome_then (g.I.Source.remaining c.args.reader.now) c.obey-keeper.ensures.fed
     (λ input fed.
     let more : List Submitted = new_to keeper (submitted_by (orders_of plan input)) in
-    let feeds : Feeds is_lawful state failures answers marks r u v keeper new more = fed in
-    let stands = λ (lawful : is_lawful old) (history : List Submitted) (told : EachTellsHistory answers plan history (state old)).
-    let safe : CrashSafe Unchanged (state old) (state keeper.device) = c.in-Ok.ensures.crash_safe lawful in
-    found answers plan history (state old) (state keeper.device) safe
-    (λ i image. g.met.D.Disk.counts_now keeper.device (state old).moment i (c.in-Ok.ensures.device.lawful.0 lawful) safe.later image) told
+    let feeds : Feeds view answers marks r u v keeper new more = fed in
+    let stands = λ (lawful : (view old).lawful) (history : List Submitted) (told : EachTellsHistory answers plan history (view old).state).
+    let safe : CrashSafe Unchanged (view old).state (view keeper.device).state = c.in-Ok.ensures.crash_safe lawful in
+    found answers plan history (view old).state (view keeper.device).state safe
+    (λ i image. g.met.D.Disk.counts_now keeper.device (view old).state.moment i (c.in-Ok.ensures.device.lawful.0 lawful) safe.later image) told
     c.told_in_parts.ensures.one_answer (g.met.D.Disk.reads_image keeper.device (c.in-Ok.ensures.device.lawful.0 lawful)) keeper.standing (c.in-Ok.ensures.told lawful) in
     let by_keeper = λ (history : List Submitted) (is : Stands (states_by answers plan) keeper.standing history).
     subst (λ (p : List Line). Stands (states_by answers p) keeper.standing history) (sym c.in-Ok.ensures.plan) is in
     let also : (history : List Submitted) → Stands (states_by answers plan) keeper.standing history → more ≡ new_after (greatest 0 history) (submitted_by (orders_of plan input)) =
     λ history is. ap (λ (q : ℕ). new_after q (submitted_by (orders_of plan input))) (last_of_history answers plan keeper.standing history is) in
-    let left_lawful : is_lawful old → is_lawful new.device = λ lawful. c.obey-keeper.ensures.disk.lawful.0 (c.in-Ok.ensures.device.lawful.0 lawful) in
+    let left_lawful : (view old).lawful → (view new.device).lawful = λ lawful. c.obey-keeper.ensures.disk.lawful.0 (c.in-Ok.ensures.device.lawful.0 lawful) in
     record {
       fed = on_ok_weaker r (λ (carries : Carries answers keeper new more) lawful history told.
           let is = stands lawful history told in
-          subst (λ (l : List Submitted). EachTellsHistory answers plan (history ++ l) (state c.into_disk.result)) (also history is)
-          (subst (λ (d : g.row.D.Denot). EachTellsHistory answers plan (history ++ more) (state d)) (sym c.into_disk.ensures.disk)
-          (subst (λ (p : List Line). EachTellsHistory answers p (history ++ more) (state new.device)) c.in-Ok.ensures.plan
-          (ended_all is_lawful state answers c.told_in_parts.ensures.together keeper new history more (by_keeper history is) carries held (left_lawful lawful))))) feeds.carried;
+          subst (λ (l : List Submitted). EachTellsHistory answers plan (history ++ l) (view c.into_disk.result).state) (also history is)
+          (subst (λ (d : g.row.D.Denot). EachTellsHistory answers plan (history ++ more) (view d).state) (sym c.into_disk.ensures.disk)
+          (subst (λ (p : List Line). EachTellsHistory answers p (history ++ more) (view new.device).state) c.in-Ok.ensures.plan
+          (ended_all view answers c.told_in_parts.ensures.together keeper new history more (by_keeper history is) carries held (left_lawful lawful))))) feeds.carried;
       safe = λ lawful history told.
           let is = stands lawful history told in
-          subst (λ (l : List Submitted). EachTellsSome answers plan history l (state c.into_disk.result)) (also history is)
-          (subst (λ (d : g.row.D.Denot). EachTellsSome answers plan history more (state d)) (sym c.into_disk.ensures.disk)
-          (subst (λ (p : List Line). EachTellsSome answers p history more (state new.device)) c.in-Ok.ensures.plan
-          (ended_some is_lawful state answers c.told_in_parts.ensures.together keeper new history more (by_keeper history is) (left_of r feeds) held (left_lawful lawful))));
-      said = fed_says is_lawful state failures answers marks r plan false old c.into_disk.result u v (epochs_alone (submitted_by (orders_of plan input)))
+          subst (λ (l : List Submitted). EachTellsSome answers plan history l (view c.into_disk.result).state) (also history is)
+          (subst (λ (d : g.row.D.Denot). EachTellsSome answers plan history more (view d).state) (sym c.into_disk.ensures.disk)
+          (subst (λ (p : List Line). EachTellsSome answers p history more (view new.device).state) c.in-Ok.ensures.plan
+          (ended_some view answers c.told_in_parts.ensures.together keeper new history more (by_keeper history is) (left_of r feeds) held (left_lawful lawful))));
+      said = fed_says view answers marks r plan false old c.into_disk.result u v (epochs_alone (submitted_by (orders_of plan input)))
           (record {
             keeper = c.in-Ok.keeper;
             fresh = c.in-Ok.ensures.fresh;
@@ -125,8 +120,8 @@ returns-clause-fed g c = λ fits.
             found = c.in-Ok.ensures.kept;
             ended = new;
             left_is = c.into_disk.ensures.disk;
-            lawful_left = λ lawful. subst is_lawful (sym c.into_disk.ensures.disk) (left_lawful lawful);
-            holds = subst (λ (d : g.row.D.Denot). is_lawful d → HeldWhere new.broken answers new.plan new.head new.side new.standing (state d)) (sym c.into_disk.ensures.disk) held;
+            lawful_left = λ lawful. subst (λ (d : g.row.D.Denot). (view d).lawful) (sym c.into_disk.ensures.disk) (left_lawful lawful);
+            holds = subst (λ (d : g.row.D.Denot). (view d).lawful → HeldWhere new.broken answers new.plan new.head new.side new.standing (view d).state) (sym c.into_disk.ensures.disk) held;
             limit = tt;
             notes = [];
             came = refl;

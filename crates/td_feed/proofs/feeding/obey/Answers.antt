@@ -45,5 +45,5 @@ pub returns-in-Ok-clause-fed : goal.returns-in-Ok-clause-fed
 returns-in-Ok-clause-fed g c =
     IfSome_then (g.I.Source.remaining c.args.reader.now) c.in-Ok.ensures.orders
     (λ input is.
-    plainly (λ (x : List Submitted) (ns : List Aside). FeedsNoting g.D.Disk.is_lawful g.D.Disk.state g.D.Disk.failures g.L.Law.answers g.W.Voice.marks c.obey_by_workers.result.1 (g.W.Sink.contents c.args.writer.now) (g.W.Sink.contents c.obey_by_workers.new.writer) c.args.keeper c.obey_by_workers.result.0 (new_to c.args.keeper x) ns)
+    plainly (λ (x : List Submitted) (ns : List Aside). FeedsNoting g.D.Disk.view g.L.Law.answers g.W.Voice.marks c.obey_by_workers.result.1 (g.W.Sink.contents c.args.writer.now) (g.W.Sink.contents c.obey_by_workers.new.writer) c.args.keeper c.obey_by_workers.result.0 (new_to c.args.keeper x) ns)
     c.args.plan.now input _ c.obey_by_workers.ensures.fed.fed.done (is ∙ ap as_read (sym c.from-in-Ok.ensures.0)) c.obey_by_workers.ensures.fed.fed.came c.obey_by_workers.ensures.fed.fed.fed)

@@ -3,12 +3,12 @@ use Rattle.std.specs.Prelude.{Option, Some, Result, Ok, Err, OnOk}
 use Rattle.std.specs.Result.{IsErrAnd}
 use Rattle.td_console.specs.declared.faults.Fault.{Fault}
 use Rattle.td_console.specs.declared.faults.Fault.TheVariants.{Keeper}
-use Rattle.td_standing.specs.declared.error.KeeperError.TheVariants.{Device}
+use Rattle.td_store.specs.declared.standing.error.KeeperError.TheVariants.{Device}
 use Rattle.td_feed.specs.Noted.{Aside, ComeOf, copied_in}
 use Rattle.td_feed.specs.Copied.{Copied, MakesCopies}
 use Rattle.td_feed.specs.Orders.{submissions, notes_in}
 use Rattle.td_feed.specs.Asked.{Script, Asks, asked_for, notes_for, is_of_reader}
-use Rattle.td_standing.specs.Standing.{last_epoch, last_request}
+use Rattle.td_store.specs.standing.Standing.{last_epoch, last_request}
 use Rattle.td_keeper.specs.Keeping.{Keeping}
 use Rattle.td_feed.specs.Carried.{new_to, Carries, Leaves}
 use Rattle.td_feed.specs.Said.{Says, SaysBy}
@@ -37,17 +37,14 @@ returns-then-is_refused-clause-fed g c = in_some_is (script_at g.S.Asking.script
 pub returns-in_err-begin-clause-disk : goal.returns-in_err-begin-clause-disk
 returns-in_err-begin-clause-disk g c =
     disk_handed c.from_residual.result c.from_residual.ensures.1
-    (subst (λ (k : Keeping g.row.D.Denot). KeepsDisk g.D.Disk.capacity g.D.Disk.is_lawful g.D.Disk.failures (as_err (Unit {0}) c.in_err-begin.field-0.0) k.device (g.E.Obey.keeping c.begin.new.engine).device) c.allow.ensures c.in_err-begin.ensures.disk)
+    (subst (λ (k : Keeping g.row.D.Denot). KeepsDisk g.D.Disk.view (as_err (Unit {0}) c.in_err-begin.field-0.0) k.device (g.E.Obey.keeping c.begin.new.engine).device) c.allow.ensures c.in_err-begin.ensures.disk)
 
 pub returns-in_err-begin-clause-fed : goal.returns-in_err-begin-clause-fed
 returns-in_err-begin-clause-fed g c =
-    let is_lawful = g.D.Disk.is_lawful in
-    let state = g.D.Disk.state in
-    let failures = g.D.Disk.failures in
+    let view = g.D.Disk.view in
     let answers = g.L.Law.answers in
     let marks = g.W.Voice.marks in
-    let lawful_new = g.H.New.Disk.is_lawful in
-    let state_new = g.H.New.Disk.state in
+    let new_view = g.H.New.Disk.view in
     let had = g.H.Host.copies c.args.host.now in
     let u = g.W.Sink.contents c.args.writer.now in
     let w = g.W.Sink.contents c.begin.new.writer in
@@ -56,22 +53,19 @@ returns-in_err-begin-clause-fed g c =
     let fed = c.in_err-begin.ensures.fed in
     in_some_is (script_at g.S.Asking.script (g.E.Obey.keeping c.args.engine.now) c.args.orders.now)
     (λ s is. err_fed _ c.from_residual.result (notes_in s.orders) c.from_residual.ensures.1 (as_they_ask s.orders)
-    (none_left is_lawful state failures answers marks lawful_new state_new old new (new_to old (submissions s.orders)) c.requires.whole (subst (λ (k : Keeping g.row.D.Denot). Leaves is_lawful state answers k new []) c.allow.ensures fed.left))
-    (handed_on is_lawful state failures answers marks c.from_residual.result c.in_err-begin.field-0.0 u u w old old new [] [] (new_to old (submissions s.orders)) [] [] (notes_in s.orders) (notes_in s.orders) refl c.from_residual.ensures.1 (says_nothing is_lawful state failures answers marks u old)
-    (subst (λ (k : Keeping g.row.D.Denot). SaysBy is_lawful state failures answers marks (Err c.in_err-begin.field-0.0) u w k new [] []) c.allow.ensures fed.said))
-    (subst (λ (has : Option (List (Copied g.row.H-New.Denot))). MakesCopies is_lawful lawful_new state_new answers (copied_in (notes_in s.orders)) had has old (new_to old (submissions s.orders))) (sym c.tell_seen.ensures.copies)
-    (subst (λ (said : List (List ℕ × ℕ)). MakesCopies is_lawful lawful_new state_new answers said had had old (new_to old (submissions s.orders))) (sym (none_yet s.orders))
-    (none_made is_lawful lawful_new state_new answers had old (new_to old (submissions s.orders))))))
+    (none_left view answers marks new_view old new (new_to old (submissions s.orders)) c.requires.whole (subst (λ (k : Keeping g.row.D.Denot). Leaves view answers k new []) c.allow.ensures fed.left))
+    (handed_on view answers marks c.from_residual.result c.in_err-begin.field-0.0 u u w old old new [] [] (new_to old (submissions s.orders)) [] [] (notes_in s.orders) (notes_in s.orders) refl c.from_residual.ensures.1 (says_nothing view answers marks u old)
+    (subst (λ (k : Keeping g.row.D.Denot). SaysBy view answers marks (Err c.in_err-begin.field-0.0) u w k new [] []) c.allow.ensures fed.said))
+    (subst (λ (has : Option (List (Copied g.row.H-New.Denot))). MakesCopies view new_view answers (copied_in (notes_in s.orders)) had has old (new_to old (submissions s.orders))) (sym c.tell_seen.ensures.copies)
+    (subst (λ (said : List (List ℕ × ℕ)). MakesCopies view new_view answers said had had old (new_to old (submissions s.orders))) (sym (none_yet s.orders))
+    (none_made view new_view answers had old (new_to old (submissions s.orders))))))
 
 pub loop-asked-init : goal.loop-asked-init
 loop-asked-init g c =
-    let is_lawful = g.D.Disk.is_lawful in
-    let state = g.D.Disk.state in
-    let failures = g.D.Disk.failures in
+    let view = g.D.Disk.view in
     let answers = g.L.Law.answers in
     let marks = g.W.Voice.marks in
-    let lawful_new = g.H.New.Disk.is_lawful in
-    let state_new = g.H.New.Disk.state in
+    let new_view = g.H.New.Disk.view in
     let had = g.H.Host.copies c.args.host.now in
     let v = g.W.Sink.contents c.args.writer.now in
     let w = g.W.Sink.contents c.begin.new.writer in
@@ -84,15 +78,15 @@ loop-asked-init g c =
     let pace = c.args.feeding.pace in
     let first : Option ℕ = c.first_seen-seen.result in
     let is : first ≡ seen_at pace old.standing.epoch = c.first_seen-seen.ensures ∙ ap (λ (k : Keeping g.row.D.Denot). seen_at pace k.standing.epoch) c.keeper.ensures in
-    let disk : KeepsDisk g.D.Disk.capacity is_lawful failures done old.device new.device =
-    subst (λ (k : Keeping g.row.D.Denot). KeepsDisk g.D.Disk.capacity is_lawful failures done k.device new.device) same c.in_ok-begin.ensures.disk in
+    let disk : KeepsDisk g.D.Disk.view done old.device new.device =
+    subst (λ (k : Keeping g.row.D.Denot). KeepsDisk g.D.Disk.view done k.device new.device) same c.in_ok-begin.ensures.disk in
     record {
       obeyed =
-          subst (λ (has : Option (List (Copied g.row.H-New.Denot))). HasObeyed is_lawful state failures answers marks lawful_new state_new script (script_at g.S.Asking.script new c.args.orders.now) v w had has old new (seen_at pace old.standing.epoch) first) (sym c.tell_seen.ensures.copies)
-          (subst (λ (left : Option Script). HasObeyed is_lawful state failures answers marks lawful_new state_new script left v w had had old new (seen_at pace old.standing.epoch) first) (script_same g.S.Asking.script answers old new c.args.orders.now carried)
-          (subst (λ (f : Option ℕ). HasObeyed is_lawful state failures answers marks lawful_new state_new script script v w had had old new f first) is
-          (none_obeyed is_lawful state failures answers marks lawful_new state_new script v w had old new first
-          (subst (λ (k : Keeping g.row.D.Denot). Says is_lawful state failures answers marks v w k new [] []) same fed.said)
+          subst (λ (has : Option (List (Copied g.row.H-New.Denot))). HasObeyed view answers marks new_view script (script_at g.S.Asking.script new c.args.orders.now) v w had has old new (seen_at pace old.standing.epoch) first) (sym c.tell_seen.ensures.copies)
+          (subst (λ (left : Option Script). HasObeyed view answers marks new_view script left v w had had old new (seen_at pace old.standing.epoch) first) (script_same g.S.Asking.script answers old new c.args.orders.now carried)
+          (subst (λ (f : Option ℕ). HasObeyed view answers marks new_view script script v w had had old new f first) is
+          (none_obeyed view answers marks new_view script v w had old new first
+          (subst (λ (k : Keeping g.row.D.Denot). Says view answers marks v w k new [] []) same fed.said)
           carried disk.lawful.0
           (subst (λ (k : Keeping g.row.D.Denot). KeepsTo first k new) same c.begin.ensures.held))));
       disk = disk;
@@ -107,13 +101,10 @@ returns-in_err-asked-clause-disk g c =
 
 pub returns-in_err-asked-clause-fed : goal.returns-in_err-asked-clause-fed
 returns-in_err-asked-clause-fed g c =
-    let is_lawful = g.D.Disk.is_lawful in
-    let state = g.D.Disk.state in
-    let failures = g.D.Disk.failures in
+    let view = g.D.Disk.view in
     let answers = g.L.Law.answers in
     let marks = g.W.Voice.marks in
-    let lawful_new = g.H.New.Disk.is_lawful in
-    let state_new = g.H.New.Disk.state in
+    let new_view = g.H.New.Disk.view in
     let had = g.H.Host.copies c.args.host.now in
     let script = script_at g.S.Asking.script (g.E.Obey.keeping c.args.engine.now) c.args.orders.now in
     let left = script_at g.S.Asking.script (g.E.Obey.keeping c.loop-asked.engine) c.loop-asked.orders in
@@ -128,12 +119,12 @@ returns-in_err-asked-clause-fed g c =
     let r = c.from_residual-in_err-asked.result in
     in_some_is script
     (λ s is.
-    let later : (m : List Aside) × ComeOf (notes_in s.orders) (so.answered ++ m) × MakesCopies is_lawful lawful_new state_new answers (copied_in (so.answered ++ m)) had has old (new_to old (submissions s.orders)) =
-    known _ script s is (came_there is_lawful state failures answers marks lawful_new state_new script left left u v had has old there first seen so) in
+    let later : (m : List Aside) × ComeOf (notes_in s.orders) (so.answered ++ m) × MakesCopies view new_view answers (copied_in (so.answered ++ m)) had has old (new_to old (submissions s.orders)) =
+    known _ script s is (came_there view answers marks new_view script left left u v had has old there first seen so) in
     err_fed _ r (so.answered ++ later.0) c.from_residual-in_err-asked.ensures.1 later.1
-    (known _ script s is (left_there is_lawful state failures answers marks lawful_new state_new script left left u v had has old there first seen so))
-    (by_refusal is_lawful state failures answers marks r (λ (f : Fault). f ≡ c.in_err-asked.field-0.0) u v old there (new_to old (submissions s.orders)) (so.answered ++ later.0) c.from_residual-in_err-asked.ensures.1
-    (λ f holds. inr (some_of_more is_lawful state failures answers marks u v old there so.answered later.0 (so.answered ++ later.0) refl (some_of_all is_lawful state failures answers marks u v old there (new_to old (submissions so.done)) so.answered so.said))))
+    (known _ script s is (left_there view answers marks new_view script left left u v had has old there first seen so))
+    (by_refusal view answers marks r (λ (f : Fault). f ≡ c.in_err-asked.field-0.0) u v old there (new_to old (submissions s.orders)) (so.answered ++ later.0) c.from_residual-in_err-asked.ensures.1
+    (λ f holds. inr (some_of_more view answers marks u v old there so.answered later.0 (so.answered ++ later.0) refl (some_of_all view answers marks u v old there (new_to old (submissions so.done)) so.answered so.said))))
     later.2)
 
 pub returns-in_err-asked-clause-held : goal.returns-in_err-asked-clause-held
@@ -143,7 +134,7 @@ returns-in_err-asked-clause-held g c =
     let left = script_at g.S.Asking.script (g.E.Obey.keeping c.loop-asked.engine) c.loop-asked.orders in
     let old = g.E.Obey.keeping c.args.engine.now in
     let there = g.E.Obey.keeping c.loop-asked.engine in
-    held_there g.D.Disk.is_lawful g.D.Disk.state g.D.Disk.failures g.L.Law.answers g.W.Voice.marks g.H.New.Disk.is_lawful g.H.New.Disk.state script left left (g.W.Sink.contents c.args.writer.now) (g.W.Sink.contents c.loop-asked.writer) (g.H.Host.copies c.args.host.now) (g.H.Host.copies c.loop-asked.host) old there first c.loop-asked.seen c.loop-asked.invariant.obeyed there (base_itself there)
+    held_there g.D.Disk.view g.L.Law.answers g.W.Voice.marks g.H.New.Disk.view script left left (g.W.Sink.contents c.args.writer.now) (g.W.Sink.contents c.loop-asked.writer) (g.H.Host.copies c.args.host.now) (g.H.Host.copies c.loop-asked.host) old there first c.loop-asked.seen c.loop-asked.invariant.obeyed there (base_itself there)
 
 pub returns-in_err-next-clause-disk : goal.returns-in_err-next-clause-disk
 returns-in_err-next-clause-disk g c =
@@ -153,13 +144,10 @@ returns-in_err-next-clause-disk g c =
 
 pub returns-in_err-next-clause-fed : goal.returns-in_err-next-clause-fed
 returns-in_err-next-clause-fed g c =
-    let is_lawful = g.D.Disk.is_lawful in
-    let state = g.D.Disk.state in
-    let failures = g.D.Disk.failures in
+    let view = g.D.Disk.view in
     let answers = g.L.Law.answers in
     let marks = g.W.Voice.marks in
-    let lawful_new = g.H.New.Disk.is_lawful in
-    let state_new = g.H.New.Disk.state in
+    let new_view = g.H.New.Disk.view in
     let had = g.H.Host.copies c.args.host.now in
     let script = script_at g.S.Asking.script (g.E.Obey.keeping c.args.engine.now) c.args.orders.now in
     let left = script_at g.S.Asking.script (g.E.Obey.keeping c.loop-asked.engine) c.loop-asked.orders in
@@ -174,12 +162,12 @@ returns-in_err-next-clause-fed g c =
     let r = c.from_residual-in_err-next.result in
     in_some_is script
     (λ s is.
-    let later : (m : List Aside) × ComeOf (notes_in s.orders) (so.answered ++ m) × MakesCopies is_lawful lawful_new state_new answers (copied_in (so.answered ++ m)) had has old (new_to old (submissions s.orders)) =
-    known _ script s is (came_there is_lawful state failures answers marks lawful_new state_new script left left u v had has old there first seen so) in
+    let later : (m : List Aside) × ComeOf (notes_in s.orders) (so.answered ++ m) × MakesCopies view new_view answers (copied_in (so.answered ++ m)) had has old (new_to old (submissions s.orders)) =
+    known _ script s is (came_there view answers marks new_view script left left u v had has old there first seen so) in
     err_fed _ r (so.answered ++ later.0) c.from_residual-in_err-next.ensures.1 later.1
-    (known _ script s is (left_there is_lawful state failures answers marks lawful_new state_new script left left u v had has old there first seen so))
-    (by_refusal is_lawful state failures answers marks r (λ (f : Fault). f ≡ c.in_err-next.field-0.0) u v old there (new_to old (submissions s.orders)) (so.answered ++ later.0) c.from_residual-in_err-next.ensures.1
-    (λ f holds. inr (some_of_more is_lawful state failures answers marks u v old there so.answered later.0 (so.answered ++ later.0) refl (some_of_all is_lawful state failures answers marks u v old there (new_to old (submissions so.done)) so.answered so.said))))
+    (known _ script s is (left_there view answers marks new_view script left left u v had has old there first seen so))
+    (by_refusal view answers marks r (λ (f : Fault). f ≡ c.in_err-next.field-0.0) u v old there (new_to old (submissions s.orders)) (so.answered ++ later.0) c.from_residual-in_err-next.ensures.1
+    (λ f holds. inr (some_of_more view answers marks u v old there so.answered later.0 (so.answered ++ later.0) refl (some_of_all view answers marks u v old there (new_to old (submissions so.done)) so.answered so.said))))
     later.2)
 
 pub returns-in_err-next-clause-held : goal.returns-in_err-next-clause-held
@@ -189,20 +177,17 @@ returns-in_err-next-clause-held g c =
     let left = script_at g.S.Asking.script (g.E.Obey.keeping c.loop-asked.engine) c.loop-asked.orders in
     let old = g.E.Obey.keeping c.args.engine.now in
     let there = g.E.Obey.keeping c.loop-asked.engine in
-    held_there g.D.Disk.is_lawful g.D.Disk.state g.D.Disk.failures g.L.Law.answers g.W.Voice.marks g.H.New.Disk.is_lawful g.H.New.Disk.state script left left (g.W.Sink.contents c.args.writer.now) (g.W.Sink.contents c.loop-asked.writer) (g.H.Host.copies c.args.host.now) (g.H.Host.copies c.loop-asked.host) old there first c.loop-asked.seen c.loop-asked.invariant.obeyed there (base_itself there)
+    held_there g.D.Disk.view g.L.Law.answers g.W.Voice.marks g.H.New.Disk.view script left left (g.W.Sink.contents c.args.writer.now) (g.W.Sink.contents c.loop-asked.writer) (g.H.Host.copies c.args.host.now) (g.H.Host.copies c.loop-asked.host) old there first c.loop-asked.seen c.loop-asked.invariant.obeyed there (base_itself there)
 
 pub returns-in_default-clause-disk : goal.returns-in_default-clause-disk
 returns-in_default-clause-disk g c = disk_then c.loop-asked.invariant.disk c.settle.ensures.disk
 
 pub returns-in_default-clause-fed : goal.returns-in_default-clause-fed
 returns-in_default-clause-fed g c =
-    let is_lawful = g.D.Disk.is_lawful in
-    let state = g.D.Disk.state in
-    let failures = g.D.Disk.failures in
+    let view = g.D.Disk.view in
     let answers = g.L.Law.answers in
     let marks = g.W.Voice.marks in
-    let lawful_new = g.H.New.Disk.is_lawful in
-    let state_new = g.H.New.Disk.state in
+    let new_view = g.H.New.Disk.view in
     let had = g.H.Host.copies c.args.host.now in
     let script = script_at g.S.Asking.script (g.E.Obey.keeping c.args.engine.now) c.args.orders.now in
     let left = script_at g.S.Asking.script (g.E.Obey.keeping c.loop-asked.engine) c.loop-asked.orders in
@@ -225,28 +210,25 @@ returns-in_default-clause-fed g c =
     (subst (AsksFrom g.S.Asking.script c.of-room.result.told c.of-room.result.last c.loop-asked.orders c.next_asked.new.self) none c.in_ok-asked.ensures.asked) in
     in_some_is script
     (λ s is. record {
-      sound = at_ok r (known _ script s is (is_sound is_lawful state failures answers marks lawful_new state_new script left next u v had has old there first seen so asks));
+      sound = at_ok r (known _ script s is (is_sound view answers marks new_view script left next u v had has old there first seen so asks));
       fed = record {
         done = so.answered;
-        came = known _ script s is (at_end_came is_lawful state failures answers marks lawful_new state_new script left next u v had has old there first seen so asks);
+        came = known _ script s is (at_end_came view answers marks new_view script left next u v had has old there first seen so asks);
         fed = record {
-          carried = at_ok r (known _ script s is (at_end_carried is_lawful state failures answers marks lawful_new state_new script left next u v had has old there first seen so new asks c.settle.ensures.rests));
-          left = at_err r (known _ script s is (at_end_left is_lawful state failures answers marks lawful_new state_new script left next u v had has old there first seen so new asks c.settle.ensures.rests));
-          said = known _ script s is (at_end_said is_lawful state failures answers marks lawful_new state_new script left next u v had has old there first seen so r w new asks c.settle.ensures.fed.said);
+          carried = at_ok r (known _ script s is (at_end_carried view answers marks new_view script left next u v had has old there first seen so new asks c.settle.ensures.rests));
+          left = at_err r (known _ script s is (at_end_left view answers marks new_view script left next u v had has old there first seen so new asks c.settle.ensures.rests));
+          said = known _ script s is (at_end_said view answers marks new_view script left next u v had has old there first seen so r w new asks c.settle.ensures.fed.said);
         };
-        copied = known _ script s is (at_end_copied is_lawful state failures answers marks lawful_new state_new script left next u v had has old there first seen so asks);
+        copied = known _ script s is (at_end_copied view answers marks new_view script left next u v had has old there first seen so asks);
       };
     })
 
 pub loop-asked-preserved : goal.loop-asked-preserved
 loop-asked-preserved g c =
-    let is_lawful = g.D.Disk.is_lawful in
-    let state = g.D.Disk.state in
-    let failures = g.D.Disk.failures in
+    let view = g.D.Disk.view in
     let answers = g.L.Law.answers in
     let marks = g.W.Voice.marks in
-    let lawful_new = g.H.New.Disk.is_lawful in
-    let state_new = g.H.New.Disk.state in
+    let new_view = g.H.New.Disk.view in
     let had = g.H.Host.copies c.args.host.now in
     let script = script_at g.S.Asking.script (g.E.Obey.keeping c.args.engine.now) c.args.orders.now in
     let left = script_at g.S.Asking.script (g.E.Obey.keeping c.loop-asked.engine) c.loop-asked.orders in
@@ -269,39 +251,36 @@ loop-asked-preserved g c =
     (subst (AsksFrom g.S.Asking.script c.of-room.result.told c.of-room.result.last c.loop-asked.orders c.next_asked.new.self) c.in-Some-2.is c.in_ok-asked.ensures.asked) in
     let same = c.allow-in-loop-asked.ensures in
     let told = c.tell_seen-in-loop-asked.ensures in
-    let fed : FeedsCopying is_lawful state failures answers marks lawful_new state_new done v w has then there new (new_to there (asked_for asked)) (notes_for asked) =
-    subst (λ (k : Keeping g.row.D.Denot). FeedsCopying is_lawful state failures answers marks lawful_new state_new done v w has then k new (new_to k (asked_for asked)) (notes_for asked)) same
-    (subst (λ (h : Option (List (Copied g.row.H-New.Denot))). FeedsCopying is_lawful state failures answers marks lawful_new state_new done v w h then (g.E.Obey.keeping c.allow-in-loop-asked.new.self) new (new_to (g.E.Obey.keeping c.allow-in-loop-asked.new.self) (asked_for asked)) (notes_for asked)) told.copies c.in_ok-obey_at_pace.ensures.fed) in
-    let disk : KeepsDisk g.D.Disk.capacity is_lawful failures done there.device new.device =
-    subst (λ (k : Keeping g.row.D.Denot). KeepsDisk g.D.Disk.capacity is_lawful failures done k.device new.device) same c.in_ok-obey_at_pace.ensures.disk in
+    let fed : FeedsCopying view answers marks new_view done v w has then there new (new_to there (asked_for asked)) (notes_for asked) =
+    subst (λ (k : Keeping g.row.D.Denot). FeedsCopying view answers marks new_view done v w has then k new (new_to k (asked_for asked)) (notes_for asked)) same
+    (subst (λ (h : Option (List (Copied g.row.H-New.Denot))). FeedsCopying view answers marks new_view done v w h then (g.E.Obey.keeping c.allow-in-loop-asked.new.self) new (new_to (g.E.Obey.keeping c.allow-in-loop-asked.new.self) (asked_for asked)) (notes_for asked)) told.copies c.in_ok-obey_at_pace.ensures.fed) in
+    let disk : KeepsDisk g.D.Disk.view done there.device new.device =
+    subst (λ (k : Keeping g.row.D.Denot). KeepsDisk g.D.Disk.view done k.device new.device) same c.in_ok-obey_at_pace.ensures.disk in
     let later = c.in_ok-next.next in
     let before = g.H.Host.seen c.args.host.now in
     record {
       obeyed =
-          subst (λ (more : Option Script). HasObeyed is_lawful state failures answers marks lawful_new state_new script more u w had then old new first later) (next_there g.S.Asking.script answers there new asked c.next_asked.new.self fed.fed.carried)
-          (some_obeyed is_lawful state failures answers marks lawful_new state_new script left next u v w had has then old there new asked first seen so asks later c.in_ok-next.ensures.ok
+          subst (λ (more : Option Script). HasObeyed view answers marks new_view script more u w had then old new first later) (next_there g.S.Asking.script answers there new asked c.next_asked.new.self fed.fed.carried)
+          (some_obeyed view answers marks new_view script left next u v w had has then old there new asked first seen so asks later c.in_ok-next.ensures.ok
           (subst (λ (k : Keeping g.row.D.Denot). KeepsTo later k new) same c.obey_at_pace.ensures.held) disk.lawful.0 tt fed);
       disk = disk_then c.loop-asked.invariant.disk disk;
       told =
           c.obey_at_pace.ensures.seen ∙ told.seen ∙ ap (λ (o : Option ℕ). told_seen o later) c.loop-asked.invariant.told
-          ∙ told_on is_lawful state failures answers marks lawful_new state_new script left next u v w had has then old there new asked first seen so asks later before c.in_ok-next.ensures.ok;
+          ∙ told_on view answers marks new_view script left next u v w had has then old there new asked first seen so asks later before c.in_ok-next.ensures.ok;
     }
 
 pub returns-in_err-obey_at_pace-clause-disk : goal.returns-in_err-obey_at_pace-clause-disk
 returns-in_err-obey_at_pace-clause-disk g c =
     disk_then c.loop-asked.invariant.disk
     (disk_handed c.from_residual-in_err-obey_at_pace.result c.from_residual-in_err-obey_at_pace.ensures.1
-    (subst (λ (k : Keeping g.row.D.Denot). KeepsDisk g.D.Disk.capacity g.D.Disk.is_lawful g.D.Disk.failures (as_err (Unit {0}) c.in_err-obey_at_pace.field-0.0) k.device (g.E.Obey.keeping c.obey_at_pace.new.engine).device) c.allow-in-loop-asked.ensures c.in_err-obey_at_pace.ensures.disk))
+    (subst (λ (k : Keeping g.row.D.Denot). KeepsDisk g.D.Disk.view (as_err (Unit {0}) c.in_err-obey_at_pace.field-0.0) k.device (g.E.Obey.keeping c.obey_at_pace.new.engine).device) c.allow-in-loop-asked.ensures c.in_err-obey_at_pace.ensures.disk))
 
 pub returns-in_err-obey_at_pace-clause-fed : goal.returns-in_err-obey_at_pace-clause-fed
 returns-in_err-obey_at_pace-clause-fed g c =
-    let is_lawful = g.D.Disk.is_lawful in
-    let state = g.D.Disk.state in
-    let failures = g.D.Disk.failures in
+    let view = g.D.Disk.view in
     let answers = g.L.Law.answers in
     let marks = g.W.Voice.marks in
-    let lawful_new = g.H.New.Disk.is_lawful in
-    let state_new = g.H.New.Disk.state in
+    let new_view = g.H.New.Disk.view in
     let had = g.H.Host.copies c.args.host.now in
     let script = script_at g.S.Asking.script (g.E.Obey.keeping c.args.engine.now) c.args.orders.now in
     let left = script_at g.S.Asking.script (g.E.Obey.keeping c.loop-asked.engine) c.loop-asked.orders in
@@ -325,17 +304,17 @@ returns-in_err-obey_at_pace-clause-fed g c =
     let same = c.allow-in-loop-asked.ensures in
     let r = c.from_residual-in_err-obey_at_pace.result in
     let e = c.in_err-obey_at_pace.field-0.0 in
-    let fed : FeedsCopying is_lawful state failures answers marks lawful_new state_new (as_err (Unit {0}) e) v w has then there new (new_to there (asked_for asked)) (notes_for asked) =
-    subst (λ (k : Keeping g.row.D.Denot). FeedsCopying is_lawful state failures answers marks lawful_new state_new (as_err (Unit {0}) e) v w has then k new (new_to k (asked_for asked)) (notes_for asked)) same
-    (subst (λ (h : Option (List (Copied g.row.H-New.Denot))). FeedsCopying is_lawful state failures answers marks lawful_new state_new (as_err (Unit {0}) e) v w h then (g.E.Obey.keeping c.allow-in-loop-asked.new.self) new (new_to (g.E.Obey.keeping c.allow-in-loop-asked.new.self) (asked_for asked)) (notes_for asked))
+    let fed : FeedsCopying view answers marks new_view (as_err (Unit {0}) e) v w has then there new (new_to there (asked_for asked)) (notes_for asked) =
+    subst (λ (k : Keeping g.row.D.Denot). FeedsCopying view answers marks new_view (as_err (Unit {0}) e) v w has then k new (new_to k (asked_for asked)) (notes_for asked)) same
+    (subst (λ (h : Option (List (Copied g.row.H-New.Denot))). FeedsCopying view answers marks new_view (as_err (Unit {0}) e) v w h then (g.E.Obey.keeping c.allow-in-loop-asked.new.self) new (new_to (g.E.Obey.keeping c.allow-in-loop-asked.new.self) (asked_for asked)) (notes_for asked))
     c.tell_seen-in-loop-asked.ensures.copies c.in_err-obey_at_pace.ensures.fed) in
     in_some_is script
     (λ s is.
-    let later : (m : List Aside) × ComeOf (notes_in s.orders) ((so.answered ++ fed.done) ++ m) × MakesCopies is_lawful lawful_new state_new answers (copied_in ((so.answered ++ fed.done) ++ m)) had then old (new_to old (submissions s.orders)) =
-    known _ script s is (came_left is_lawful state failures answers marks lawful_new state_new script left next u v w had has then old there new asked first seen so asks fed.done fed.came fed.copied) in
+    let later : (m : List Aside) × ComeOf (notes_in s.orders) ((so.answered ++ fed.done) ++ m) × MakesCopies view new_view answers (copied_in ((so.answered ++ fed.done) ++ m)) had then old (new_to old (submissions s.orders)) =
+    known _ script s is (came_left view answers marks new_view script left next u v w had has then old there new asked first seen so asks fed.done fed.came fed.copied) in
     err_fed _ r ((so.answered ++ fed.done) ++ later.0) c.from_residual-in_err-obey_at_pace.ensures.1 later.1
-    (known _ script s is (some_refused is_lawful state failures answers marks lawful_new state_new script left next u v w had has then old there new asked first seen so asks fed.fed.left))
-    (handed_on is_lawful state failures answers marks r e u v w old there new (new_to old (submissions so.done)) (new_to there (asked_for asked)) (new_to old (submissions s.orders)) so.answered fed.done later.0 ((so.answered ++ fed.done) ++ later.0) refl c.from_residual-in_err-obey_at_pace.ensures.1 so.said fed.fed.said)
+    (known _ script s is (some_refused view answers marks new_view script left next u v w had has then old there new asked first seen so asks fed.fed.left))
+    (handed_on view answers marks r e u v w old there new (new_to old (submissions so.done)) (new_to there (asked_for asked)) (new_to old (submissions s.orders)) so.answered fed.done later.0 ((so.answered ++ fed.done) ++ later.0) refl c.from_residual-in_err-obey_at_pace.ensures.1 so.said fed.fed.said)
     later.2)
 
 pub returns-then-is_refused-clause-held : goal.returns-then-is_refused-clause-held
@@ -358,7 +337,7 @@ returns-in_default-clause-held g c =
     let first = seen_at c.args.feeding.pace (g.E.Obey.keeping c.args.engine.now).standing.epoch in
     let script = script_at g.S.Asking.script (g.E.Obey.keeping c.args.engine.now) c.args.orders.now in
     let left = script_at g.S.Asking.script (g.E.Obey.keeping c.loop-asked.engine) c.loop-asked.orders in
-    held_there g.D.Disk.is_lawful g.D.Disk.state g.D.Disk.failures g.L.Law.answers g.W.Voice.marks g.H.New.Disk.is_lawful g.H.New.Disk.state script left left (g.W.Sink.contents c.args.writer.now) (g.W.Sink.contents c.loop-asked.writer) (g.H.Host.copies c.args.host.now) (g.H.Host.copies c.loop-asked.host) (g.E.Obey.keeping c.args.engine.now) (g.E.Obey.keeping c.loop-asked.engine) first c.loop-asked.seen c.loop-asked.invariant.obeyed
+    held_there g.D.Disk.view g.L.Law.answers g.W.Voice.marks g.H.New.Disk.view script left left (g.W.Sink.contents c.args.writer.now) (g.W.Sink.contents c.loop-asked.writer) (g.H.Host.copies c.args.host.now) (g.H.Host.copies c.loop-asked.host) (g.E.Obey.keeping c.args.engine.now) (g.E.Obey.keeping c.loop-asked.engine) first c.loop-asked.seen c.loop-asked.invariant.obeyed
     (g.E.Obey.keeping c.settle.new.engine) c.settle.ensures.base
 
 pub returns-in_err-obey_at_pace-clause-held : goal.returns-in_err-obey_at_pace-clause-held
@@ -375,7 +354,7 @@ returns-in_err-obey_at_pace-clause-held g c =
     asks_there g.S.Asking.script there c.of-room.result.told c.of-room.result.last c.loop-asked.orders c.next_asked.new.self (Some asked)
     (c.of-room.ensures.told ∙ ap (λ (k : Keeping g.row.D.Denot). last_epoch k.standing) c.keeper-keeper.ensures) (c.of-room.ensures.last ∙ ap (λ (k : Keeping g.row.D.Denot). last_request k.standing) c.keeper-keeper.ensures)
     (subst (AsksFrom g.S.Asking.script c.of-room.result.told c.of-room.result.last c.loop-asked.orders c.next_asked.new.self) c.in-Some-2.is c.in_ok-asked.ensures.asked) in
-    some_held g.D.Disk.is_lawful g.D.Disk.state g.D.Disk.failures g.L.Law.answers g.W.Voice.marks g.H.New.Disk.is_lawful g.H.New.Disk.state script left next (g.W.Sink.contents c.args.writer.now) (g.W.Sink.contents c.loop-asked.writer) (g.W.Sink.contents c.obey_at_pace.new.writer) (g.H.Host.copies c.args.host.now) (g.H.Host.copies c.loop-asked.host) (g.H.Host.copies c.obey_at_pace.new.host) old there new asked first c.loop-asked.seen
+    some_held g.D.Disk.view g.L.Law.answers g.W.Voice.marks g.H.New.Disk.view script left next (g.W.Sink.contents c.args.writer.now) (g.W.Sink.contents c.loop-asked.writer) (g.W.Sink.contents c.obey_at_pace.new.writer) (g.H.Host.copies c.args.host.now) (g.H.Host.copies c.loop-asked.host) (g.H.Host.copies c.obey_at_pace.new.host) old there new asked first c.loop-asked.seen
     c.loop-asked.invariant.obeyed asks c.in_ok-next.next c.in_ok-next.ensures.ok
     (subst (λ (k : Keeping g.row.D.Denot). KeepsTo c.in_ok-next.next k new) c.allow-in-loop-asked.ensures c.obey_at_pace.ensures.held)
 
@@ -409,7 +388,7 @@ returns-in_err-asked-clause-seen g c =
     let old = g.E.Obey.keeping c.args.engine.now in
     let there = g.E.Obey.keeping c.loop-asked.engine in
     let r = c.from_residual-in_err-asked.result in
-    seen_there g.D.Disk.is_lawful g.D.Disk.state g.D.Disk.failures g.L.Law.answers g.W.Voice.marks g.H.New.Disk.is_lawful g.H.New.Disk.state script left left (g.W.Sink.contents c.args.writer.now) (g.W.Sink.contents c.loop-asked.writer) (g.H.Host.copies c.args.host.now) (g.H.Host.copies c.loop-asked.host) old there first c.loop-asked.seen c.loop-asked.invariant.obeyed
+    seen_there g.D.Disk.view g.L.Law.answers g.W.Voice.marks g.H.New.Disk.view script left left (g.W.Sink.contents c.args.writer.now) (g.W.Sink.contents c.loop-asked.writer) (g.H.Host.copies c.args.host.now) (g.H.Host.copies c.loop-asked.host) old there first c.loop-asked.seen c.loop-asked.invariant.obeyed
     r (g.H.Host.seen c.args.host.now) (g.H.Host.seen c.loop-asked.host) (is_err _ r c.from_residual-in_err-asked.ensures.1) c.loop-asked.invariant.told
 
 pub returns-in_err-next-clause-seen : goal.returns-in_err-next-clause-seen
@@ -420,7 +399,7 @@ returns-in_err-next-clause-seen g c =
     let old = g.E.Obey.keeping c.args.engine.now in
     let there = g.E.Obey.keeping c.loop-asked.engine in
     let r = c.from_residual-in_err-next.result in
-    seen_there g.D.Disk.is_lawful g.D.Disk.state g.D.Disk.failures g.L.Law.answers g.W.Voice.marks g.H.New.Disk.is_lawful g.H.New.Disk.state script left left (g.W.Sink.contents c.args.writer.now) (g.W.Sink.contents c.loop-asked.writer) (g.H.Host.copies c.args.host.now) (g.H.Host.copies c.loop-asked.host) old there first c.loop-asked.seen c.loop-asked.invariant.obeyed
+    seen_there g.D.Disk.view g.L.Law.answers g.W.Voice.marks g.H.New.Disk.view script left left (g.W.Sink.contents c.args.writer.now) (g.W.Sink.contents c.loop-asked.writer) (g.H.Host.copies c.args.host.now) (g.H.Host.copies c.loop-asked.host) old there first c.loop-asked.seen c.loop-asked.invariant.obeyed
     r (g.H.Host.seen c.args.host.now) (g.H.Host.seen c.loop-asked.host) (is_err _ r c.from_residual-in_err-next.ensures.1) c.loop-asked.invariant.told
 
 pub returns-in_default-clause-seen : goal.returns-in_default-clause-seen
@@ -436,7 +415,7 @@ returns-in_default-clause-seen g c =
     asks_there g.S.Asking.script there c.of-room.result.told c.of-room.result.last c.loop-asked.orders c.next_asked.new.self None
     (c.of-room.ensures.told ∙ ap (λ (k : Keeping g.row.D.Denot). last_epoch k.standing) c.keeper-keeper.ensures) (c.of-room.ensures.last ∙ ap (λ (k : Keeping g.row.D.Denot). last_request k.standing) c.keeper-keeper.ensures)
     (subst (AsksFrom g.S.Asking.script c.of-room.result.told c.of-room.result.last c.loop-asked.orders c.next_asked.new.self) none c.in_ok-asked.ensures.asked) in
-    at_end_seen g.D.Disk.is_lawful g.D.Disk.state g.D.Disk.failures g.L.Law.answers g.W.Voice.marks g.H.New.Disk.is_lawful g.H.New.Disk.state script left next (g.W.Sink.contents c.args.writer.now) (g.W.Sink.contents c.loop-asked.writer) (g.H.Host.copies c.args.host.now) (g.H.Host.copies c.loop-asked.host) old there first c.loop-asked.seen c.loop-asked.invariant.obeyed
+    at_end_seen g.D.Disk.view g.L.Law.answers g.W.Voice.marks g.H.New.Disk.view script left next (g.W.Sink.contents c.args.writer.now) (g.W.Sink.contents c.loop-asked.writer) (g.H.Host.copies c.args.host.now) (g.H.Host.copies c.loop-asked.host) old there first c.loop-asked.seen c.loop-asked.invariant.obeyed
     c.settle.result (g.H.Host.seen c.args.host.now) (g.H.Host.seen c.loop-asked.host) asks c.loop-asked.invariant.told
 
 pub returns-in_err-obey_at_pace-clause-seen : goal.returns-in_err-obey_at_pace-clause-seen
@@ -463,7 +442,7 @@ returns-in_err-obey_at_pace-clause-seen g c =
     let had = g.H.Host.copies c.args.host.now in
     let has = g.H.Host.copies c.loop-asked.host in
     let then = g.H.Host.copies c.obey_at_pace.new.host in
-    some_seen g.D.Disk.is_lawful g.D.Disk.state g.D.Disk.failures g.L.Law.answers g.W.Voice.marks g.H.New.Disk.is_lawful g.H.New.Disk.state script left next u v w had has then old there new asked first c.loop-asked.seen so asks
+    some_seen g.D.Disk.view g.L.Law.answers g.W.Voice.marks g.H.New.Disk.view script left next u v w had has then old there new asked first c.loop-asked.seen so asks
     r later before (g.H.Host.seen c.obey_at_pace.new.host) (is_err _ r c.from_residual-in_err-obey_at_pace.ensures.1) c.in_ok-next.ensures.ok
     (c.obey_at_pace.ensures.seen ∙ c.tell_seen-in-loop-asked.ensures.seen ∙ ap (λ (o : Option ℕ). told_seen o later) c.loop-asked.invariant.told
-    ∙ told_on g.D.Disk.is_lawful g.D.Disk.state g.D.Disk.failures g.L.Law.answers g.W.Voice.marks g.H.New.Disk.is_lawful g.H.New.Disk.state script left next u v w had has then old there new asked first c.loop-asked.seen so asks later before c.in_ok-next.ensures.ok)
+    ∙ told_on g.D.Disk.view g.L.Law.answers g.W.Voice.marks g.H.New.Disk.view script left next u v w had has then old there new asked first c.loop-asked.seen so asks later before c.in_ok-next.ensures.ok)

@@ -9,8 +9,8 @@ use Rattle.td_feed.proofs.in_turn.obey_each.Given as goal
 -- the keeper has gone on with what the orders so far submit, the disk is kept, and the host is told what was seen
 abbrev pub invariant-loop-asked : goal.invariant-loop-asked
 invariant-loop-asked g l = record {
-  obeyed : HasObeyed g.D.Disk.is_lawful g.D.Disk.state g.D.Disk.failures g.L.Law.answers g.W.Voice.marks g.H.New.Disk.is_lawful g.H.New.Disk.state (script_at g.S.Asking.script (g.E.Obey.keeping l.fn.engine) l.fn.orders) (script_at g.S.Asking.script (g.E.Obey.keeping l.engine) l.orders) (g.W.Sink.contents l.fn.writer) (g.W.Sink.contents l.writer) (g.H.Host.copies l.fn.host) (g.H.Host.copies l.host) (g.E.Obey.keeping l.fn.engine) (g.E.Obey.keeping l.engine)
+  obeyed : HasObeyed g.D.Disk.view g.L.Law.answers g.W.Voice.marks g.H.New.Disk.view (script_at g.S.Asking.script (g.E.Obey.keeping l.fn.engine) l.fn.orders) (script_at g.S.Asking.script (g.E.Obey.keeping l.engine) l.orders) (g.W.Sink.contents l.fn.writer) (g.W.Sink.contents l.writer) (g.H.Host.copies l.fn.host) (g.H.Host.copies l.host) (g.E.Obey.keeping l.fn.engine) (g.E.Obey.keeping l.engine)
       (seen_at l.fn.feeding.pace (g.E.Obey.keeping l.fn.engine).standing.epoch) l.seen;
-  disk : KeepsDisk g.D.Disk.capacity g.D.Disk.is_lawful g.D.Disk.failures done (g.E.Obey.keeping l.fn.engine).device (g.E.Obey.keeping l.engine).device;
+  disk : KeepsDisk g.D.Disk.view done (g.E.Obey.keeping l.fn.engine).device (g.E.Obey.keeping l.engine).device;
   told : g.H.Host.seen l.host ≡ told_seen (g.H.Host.seen l.fn.host) l.seen;
 }

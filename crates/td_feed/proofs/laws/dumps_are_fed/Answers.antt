@@ -1,4 +1,4 @@
-use Rattle.td_standing.specs.Told.{inputs_of, ring_of, floor_of}
+use Rattle.td_store.specs.standing.Told.{inputs_of, ring_of, floor_of}
 use Rattle.td_feed.proofs.Reread.{asks_for, are_read, told_new, fed_whole}
 use Rattle.td_feed.proofs.laws.dumps_are_fed.Goals as goal
 

@@ -1,5 +1,5 @@
 use Rattle.std.proofs.Common.{◌∙◌, ap, true, false}
-use Rattle.td_standing.specs.Told.{inputs_of, ring_of, floor_of}
+use Rattle.td_store.specs.standing.Told.{inputs_of, ring_of, floor_of}
 use Rattle.td_feed.specs.Asked.{Script}
 use Rattle.td_feed.specs.Dumped.{placed_dump}
 use Rattle.td_feed.specs.Placed.{placed}

@@ -2,7 +2,7 @@ use Rattle.std.proofs.Common.{◌≡◌, ℕ, Bool, true, false, List, refl, ap,
 use Rattle.std.specs.Prelude.{Option, option_map}
 use Rattle.std.specs.Option.{IfSome}
 use Rattle.td_plan.specs.Lines.{Line}
-use Rattle.td_standing.specs.Standing.{last_epoch, last_request}
+use Rattle.td_store.specs.standing.Standing.{last_epoch, last_request}
 use Rattle.td_feed.specs.Asked.{Script, is_given, script_of}
 use Rattle.td_feed.specs.Placed.{placed}
 use Rattle.td_feed.specs.Session.{limit_of, FeedsScript}
@@ -44,7 +44,7 @@ returns-in-Ok-clause-fed g c =
     let last : ℕ = last_request k.standing in
     let input = g.I.Source.remaining c.args.reader in
     of_made (script_at_disk o.placing o.hold o.questions o.copies o.refuse k.head.shape.m told last c.args.plan.now input)
-    (λ (asked : Script). FeedsScript g.D.Disk.is_lawful g.D.Disk.state g.D.Disk.failures g.L.Law.answers g.W.Voice.marks g.H.New.Disk.is_lawful g.H.New.Disk.state ended.1 (g.W.Sink.contents c.args.writer.now) (g.W.Sink.contents c.obey_by_workers.new.writer) (g.H.Host.copies c.args.host.now) (g.H.Host.copies c.obey_by_workers.new.host) k ended.0 asked)
+    (λ (asked : Script). FeedsScript g.D.Disk.view g.L.Law.answers g.W.Voice.marks g.H.New.Disk.view ended.1 (g.W.Sink.contents c.args.writer.now) (g.W.Sink.contents c.obey_by_workers.new.writer) (g.H.Host.copies c.args.host.now) (g.H.Host.copies c.obey_by_workers.new.host) k ended.0 asked)
     input _
     (made_at_disk o.placing o.hold o.questions o.copies o.refuse k.head.shape.m told last c.args.plan.now input c.limit_of-limit.result _ _ c.limit_of-limit.ensures c.new-orders.ensures.refuses c.new-orders.ensures.script)
     c.obey_by_workers.ensures.fed
@@ -58,7 +58,7 @@ returns-then-workers-eq1-clause-fed g c =
     let last : ℕ = last_request k.standing in
     let input = g.I.Source.remaining c.args.reader in
     of_made (script_at_disk o.placing o.hold o.questions o.copies o.refuse k.head.shape.m told last c.args.plan.now input)
-    (λ (asked : Script). FeedsScript g.D.Disk.is_lawful g.D.Disk.state g.D.Disk.failures g.L.Law.answers g.W.Voice.marks g.H.New.Disk.is_lawful g.H.New.Disk.state ended.1 (g.W.Sink.contents c.args.writer.now) (g.W.Sink.contents c.obey_alone.new.writer) (g.H.Host.copies c.args.host.now) (g.H.Host.copies c.obey_alone.new.host) k ended.0 asked)
+    (λ (asked : Script). FeedsScript g.D.Disk.view g.L.Law.answers g.W.Voice.marks g.H.New.Disk.view ended.1 (g.W.Sink.contents c.args.writer.now) (g.W.Sink.contents c.obey_alone.new.writer) (g.H.Host.copies c.args.host.now) (g.H.Host.copies c.obey_alone.new.host) k ended.0 asked)
     input _
     (made_at_disk o.placing o.hold o.questions o.copies o.refuse k.head.shape.m told last c.args.plan.now input c.limit_of-limit.result _ _ c.limit_of-limit.ensures c.new-orders.ensures.refuses c.new-orders.ensures.script)
     c.obey_alone.ensures.fed

@@ -4,11 +4,11 @@ use Rattle.td_plan.specs.Lines.{Line}
 use Rattle.td_disk.specs.Disk.{DiskState, Rises, IsDurable}
 use Rattle.td_gate.specs.CrashSafe.{CrashSafe, Unchanged}
 use Rattle.td_journal.specs.declared.submitted.Submitted.{Submitted}
-use Rattle.td_standing.specs.declared.error.KeeperError.{KeeperError}
-use Rattle.td_standing.specs.Told.{Told}
-use Rattle.td_standing.specs.Read.{Refused}
-use Rattle.td_standing.specs.Stops.{Stands}
-use Rattle.td_standing.specs.Advanced.{states_by, HeldWhere}
+use Rattle.td_store.specs.declared.standing.error.KeeperError.{KeeperError}
+use Rattle.td_store.specs.standing.Told.{Told}
+use Rattle.td_store.specs.standing.Read.{Refused}
+use Rattle.td_store.specs.standing.Stops.{Stands}
+use Rattle.td_store.specs.standing.Advanced.{states_by, HeldWhere}
 use Rattle.td_journal.specs.Numbers.{greatest}
 use Rattle.td_keeper.specs.Keeping.{Keeping, IsKeeping, EachKeepsTo, EverKeepsTo, KeepsSince}
 use Rattle.td_feed.specs.declared.order.Order.{Order}
@@ -18,7 +18,7 @@ use Rattle.td_feed.specs.Said.{SaysFrom}
 use Rattle.td_feed.proofs.Copies.{with_none}
 use Rattle.td_feed.proofs.Held.{seen_on, seen_further}
 use Rattle.td_feed.specs.Orders.{submissions, new_after}
-use Rattle.td_standing.specs.Standing.{last_epoch, last_request}
+use Rattle.td_store.specs.standing.Standing.{last_epoch, last_request}
 use Rattle.td_feed.specs.Asked.{Script, script_of}
 use Rattle.td_feed.specs.Placed.{placed}
 use Rattle.td_feed.specs.Fed.{EachTellsHistory, EachTellsSome}
@@ -74,10 +74,10 @@ returns-in-Err-recover-clause-disk g c = disk_refused c.in-Err-recover.refusal c
 pub returns-in-Err-recover-clause-fed : goal.returns-in-Err-recover-clause-fed
 returns-in-Err-recover-clause-fed g c = λ fits.
     let recover = c.in-Err-recover.ensures in
-    let state = g.D.Disk.state in
+    let view = g.D.Disk.view in
     let new = c.in-Err-recover.disk in
-    let rose = Rises (g.D.Disk.failures c.args.disk) (g.D.Disk.failures new) in
-    let tells = λ (e : KeeperError). g.D.Disk.is_lawful c.args.disk → IsDurable (state new) × Told c.args.plan.now (state new).bytes (Refused e) in
+    let rose = Rises (g.D.Disk.view c.args.disk).failures (g.D.Disk.view new).failures in
+    let tells = λ (e : KeeperError). (g.D.Disk.view c.args.disk).lawful → IsDurable (view new).state × Told c.args.plan.now (view new).state.bytes (Refused e) in
     in_some (g.I.Source.remaining c.args.reader)
     (λ input.
     record {
@@ -88,15 +88,14 @@ returns-in-Err-recover-clause-fed g c = λ fits.
         fed = record {
           fed = tt;
           safe = λ lawful history told.
-              let state = g.D.Disk.state in
               let answers = g.L.Law.answers in
               let old = c.args.disk in
               let new = c.in-Err-recover.disk in
               let plan = c.args.plan.now in
-              let safe : CrashSafe Unchanged (state old) (state new) = c.in-Err-recover.ensures.crash_safe lawful in
-              none_more answers plan history (new_after (greatest 0 history) (submissions (placed c.args.options.refuse (length history) (greatest 0 history) (script_of c.args.options.placing c.args.options.hold c.args.options.questions c.args.options.copies (limit_of c.args.options.refuse 0) plan input)).orders)) (state new)
-              (still_each answers plan history (state old) (state new) safe
-              (λ i image. g.met.D.Disk.counts_now new (state old).moment i (c.in-Err-recover.ensures.device.lawful.0 lawful) safe.later image) told);
+              let safe : CrashSafe Unchanged (view old).state (view new).state = c.in-Err-recover.ensures.crash_safe lawful in
+              none_more answers plan history (new_after (greatest 0 history) (submissions (placed c.args.options.refuse (length history) (greatest 0 history) (script_of c.args.options.placing c.args.options.hold c.args.options.questions c.args.options.copies (limit_of c.args.options.refuse 0) plan input)).orders)) (view new).state
+              (still_each answers plan history (view old).state (view new).state safe
+              (λ i image. g.met.D.Disk.counts_now new (view old).state.moment i (c.in-Err-recover.ensures.device.lawful.0 lawful) safe.later image) told);
           said = inl (record {
             refused = refused rose tells c.in-Err-recover.refusal c.from.result c.from.ensures (λ failed. recover.device.counts.rises (ap (refused_by (Keeping g.row.D.Denot)) failed)) recover.refused;
             unwritten = recover.crash_safe;
@@ -104,20 +103,20 @@ returns-in-Err-recover-clause-fed g c = λ fits.
           });
         };
         held = λ hold lawful kept each.
-            let safe : CrashSafe Unchanged (state c.args.disk) (state new) = recover.crash_safe lawful in
+            let safe : CrashSafe Unchanged (view c.args.disk).state (view new).state = recover.crash_safe lawful in
             let orders = (script_of c.args.options.placing c.args.options.hold c.args.options.questions c.args.options.copies (limit_of c.args.options.refuse 0) c.args.plan.now input).orders in
-            beyond c.args.plan.now (state c.args.disk) (state new) kept (seen_after kept orders) safe
-            (λ i image. g.met.D.Disk.counts_now new (state c.args.disk).moment i (recover.device.lawful.0 lawful) safe.later image) (seen_on kept orders) each;
+            beyond c.args.plan.now (view c.args.disk).state (view new).state kept (seen_after kept orders) safe
+            (λ i image. g.met.D.Disk.counts_now new (view c.args.disk).state.moment i (recover.device.lawful.0 lawful) safe.later image) (seen_on kept orders) each;
         ever_held = λ hold lawful kept each.
             let orders = (script_of c.args.options.placing c.args.options.hold c.args.options.questions c.args.options.copies (limit_of c.args.options.refuse 0) c.args.plan.now input).orders in
-            ever c.args.plan.now (state c.args.disk) (state new) (state new) kept (seen_after kept orders) (seen_after kept orders) (recover.crash_safe lawful) (λ t i le left. inl left) (seen_on kept orders) (omega arith) each;
+            ever c.args.plan.now (view c.args.disk).state (view new).state (view new).state kept (seen_after kept orders) (seen_after kept orders) (recover.crash_safe lawful) (λ t i le left. inl left) (seen_on kept orders) (omega arith) each;
       };
       copied = record {
         made = [];
         kept = sym (with_none (g.H.Host.copies c.args.host.now));
         labelled = refl;
         each = λ lawful history told.
-            All-nil (IsCopyOf g.H.New.Disk.is_lawful g.H.New.Disk.state g.L.Law.answers c.args.plan.now
+            All-nil (IsCopyOf g.H.New.Disk.view g.L.Law.answers c.args.plan.now
             (history ++ new_after (greatest 0 history) (submissions (placed c.args.options.refuse (length history) (greatest 0 history) (script_of c.args.options.placing c.args.options.hold c.args.options.questions c.args.options.copies (limit_of c.args.options.refuse 0) c.args.plan.now input)).orders)));
       };
     })
@@ -130,19 +129,15 @@ returns-in-Err-clause-seen g c = λ none. absurd (let some = c.in-Err.ensures.er
 
 pub returns-clause-disk : goal.returns-clause-disk
 returns-clause-disk g c =
-    let capacity = g.D.Disk.capacity in
-    let is_lawful = g.D.Disk.is_lawful in
-    let failures = g.D.Disk.failures in
+    let view = g.D.Disk.view in
     let r = c.obey-keeper.result.1 in
-    subst (λ (d : g.row.D.Denot). KeepsDisk capacity is_lawful failures r c.args.disk d) (sym c.into_disk.ensures.disk)
+    subst (λ (d : g.row.D.Denot). KeepsDisk view r c.args.disk d) (sym c.into_disk.ensures.disk)
     (disk_then (disk_recovered c.in-Ok.ensures.device)
-    (subst (λ (d : g.row.D.Denot). KeepsDisk capacity is_lawful failures r d c.obey-keeper.result.0.device) c.watched-keeper.ensures.device c.obey-keeper.ensures.disk))
+    (subst (λ (d : g.row.D.Denot). KeepsDisk view r d c.obey-keeper.result.0.device) c.watched-keeper.ensures.device c.obey-keeper.ensures.disk))
 
 pub returns-clause-fed : goal.returns-clause-fed
 returns-clause-fed g c = λ fits.
-    let is_lawful = g.D.Disk.is_lawful in
-    let state = g.D.Disk.state in
-    let failures = g.D.Disk.failures in
+    let view = g.D.Disk.view in
     let answers = g.L.Law.answers in
     let marks = g.W.Voice.marks in
     let plan = c.args.plan.now in
@@ -169,17 +164,16 @@ returns-clause-fed g c = λ fits.
     let asked : Script = placed refuse told last raw in
     let wanted : List Submitted = submissions asked.orders in
     let more : List Submitted = new_to keeper wanted in
-    let lawful_new = g.H.New.Disk.is_lawful in
-    let state_new = g.H.New.Disk.state in
+    let new_view = g.H.New.Disk.view in
     let had = g.H.Host.copies c.args.host.now in
     let has = g.H.Host.copies c.obey-keeper.new.host in
-    let whole : FeedsScript is_lawful state failures answers marks lawful_new state_new r u v had has keeper new asked =
-    subst (λ (k : Keeping g.row.D.Denot). FeedsScript is_lawful state failures answers marks lawful_new state_new r u v had has k new (script_at k)) c.watched-keeper.ensures.aside.1 fed in
+    let whole : FeedsScript view answers marks new_view r u v had has keeper new asked =
+    subst (λ (k : Keeping g.row.D.Denot). FeedsScript view answers marks new_view r u v had has k new (script_at k)) c.watched-keeper.ensures.aside.1 fed in
     let feeds = whole.fed.fed in
-    let stands = λ (lawful : is_lawful old) (history : List Submitted) (told : EachTellsHistory answers plan history (state old)).
-    let safe : CrashSafe Unchanged (state old) (state keeper.device) = c.in-Ok.ensures.crash_safe lawful in
-    found answers plan history (state old) (state keeper.device) safe
-    (λ i image. g.met.D.Disk.counts_now keeper.device (state old).moment i (c.in-Ok.ensures.device.lawful.0 lawful) safe.later image) told
+    let stands = λ (lawful : (view old).lawful) (history : List Submitted) (told : EachTellsHistory answers plan history (view old).state).
+    let safe : CrashSafe Unchanged (view old).state (view keeper.device).state = c.in-Ok.ensures.crash_safe lawful in
+    found answers plan history (view old).state (view keeper.device).state safe
+    (λ i image. g.met.D.Disk.counts_now keeper.device (view old).state.moment i (c.in-Ok.ensures.device.lawful.0 lawful) safe.later image) told
     c.told_in_parts.ensures.one_answer (g.met.D.Disk.reads_image keeper.device (c.in-Ok.ensures.device.lawful.0 lawful)) keeper.standing (c.in-Ok.ensures.told lawful) in
     let by_keeper = λ (history : List Submitted) (is : Stands (states_by answers plan) keeper.standing history).
     subst (λ (p : List Line). Stands (states_by answers p) keeper.standing history) (sym c.in-Ok.ensures.plan) is in
@@ -189,19 +183,19 @@ returns-clause-fed g c = λ fits.
     let first = last_of_history answers plan keeper.standing history is in
     let long = sym (as_long answers plan keeper.standing history is) in
     λ i. new_after (first i) (submissions (placed refuse (long i) (first i) raw).orders) in
-    let left_lawful : is_lawful old → is_lawful new.device = λ lawful. c.obey-keeper.ensures.disk.lawful.0 (subst is_lawful (sym c.watched-keeper.ensures.device) (c.in-Ok.ensures.device.lawful.0 lawful)) in
-    let driven = always_driven is_lawful state failures answers marks r u v keeper new more whole.fed.done feeds.said in
+    let left_lawful : (view old).lawful → (view new.device).lawful = λ lawful. c.obey-keeper.ensures.disk.lawful.0 (subst (λ (d : g.row.D.Denot). (view d).lawful) (sym c.watched-keeper.ensures.device) (c.in-Ok.ensures.device.lawful.0 lawful)) in
+    let driven = always_driven view answers marks r u v keeper new more whole.fed.done feeds.said in
     let goes = λ (hold : c.args.options.hold ≡ true). held_by {old = keeper} {new = new} c.args.options.hold keeper.standing.epoch asked.orders hold keeps in
-    let most = λ (hold : c.args.options.hold ≡ true) (lawful : is_lawful old) (kept : ℕ) (each : EachKeepsTo plan kept (state old)).
-    let safe : CrashSafe Unchanged (state old) (state keeper.device) = c.in-Ok.ensures.crash_safe lawful in
-    let there : EachKeepsTo plan kept (state keeper.device) = beyond plan (state old) (state keeper.device) kept kept safe
-    (λ i image. g.met.D.Disk.counts_now keeper.device (state old).moment i (c.in-Ok.ensures.device.lawful.0 lawful) safe.later image) (omega arith) each in
-    let low : keeper.standing.epoch ≤ kept = there (state keeper.device).bytes (g.met.D.Disk.reads_image keeper.device (c.in-Ok.ensures.device.lawful.0 lawful)) keeper.standing (c.in-Ok.ensures.told lawful) in
+    let most = λ (hold : c.args.options.hold ≡ true) (lawful : (view old).lawful) (kept : ℕ) (each : EachKeepsTo plan kept (view old).state).
+    let safe : CrashSafe Unchanged (view old).state (view keeper.device).state = c.in-Ok.ensures.crash_safe lawful in
+    let there : EachKeepsTo plan kept (view keeper.device).state = beyond plan (view old).state (view keeper.device).state kept kept safe
+    (λ i image. g.met.D.Disk.counts_now keeper.device (view old).state.moment i (c.in-Ok.ensures.device.lawful.0 lawful) safe.later image) (omega arith) each in
+    let low : keeper.standing.epoch ≤ kept = there (view keeper.device).state.bytes (g.met.D.Disk.reads_image keeper.device (c.in-Ok.ensures.device.lawful.0 lawful)) keeper.standing (c.in-Ok.ensures.told lawful) in
     let base : keeper.base ≡ keeper.standing.epoch = c.in-Ok.ensures.fresh.base in
     let on = seen_on kept asked.orders in
     let further = seen_further keeper.standing.epoch kept asked.orders low in
     (goes hold).base (seen_after kept asked.orders) further (omega (arith, base, low, on)) in
-    let from : SaysFrom is_lawful state failures answers marks r plan (c.args.workers == 1) old c.into_disk.result u v (wanted_by refuse limit raw) =
+    let from : SaysFrom view answers marks r plan (c.args.workers == 1) old c.into_disk.result u v (wanted_by refuse limit raw) =
     record {
       keeper = c.in-Ok.keeper;
       fresh = c.in-Ok.ensures.fresh;
@@ -214,8 +208,8 @@ returns-clause-fed g c = λ fits.
       found = c.in-Ok.ensures.kept;
       ended = new;
       left_is = c.into_disk.ensures.disk;
-      lawful_left = λ lawful. subst is_lawful (sym c.into_disk.ensures.disk) (left_lawful lawful);
-      holds = subst (λ (d : g.row.D.Denot). is_lawful d → HeldWhere new.broken answers new.plan new.head new.side new.standing (state d)) (sym c.into_disk.ensures.disk) held;
+      lawful_left = λ lawful. subst (λ (d : g.row.D.Denot). (view d).lawful) (sym c.into_disk.ensures.disk) (left_lawful lawful);
+      holds = subst (λ (d : g.row.D.Denot). (view d).lawful → HeldWhere new.broken answers new.plan new.head new.side new.standing (view d).state) (sym c.into_disk.ensures.disk) held;
       limit = within c.args.options.refuse keeper.head.shape.m;
       notes = whole.fed.done;
       came = whole.fed.came;
@@ -235,49 +229,48 @@ returns-clause-fed g c = λ fits.
         fed = record {
           fed = on_ok_weaker r (λ (carries : Carries answers keeper new more) lawful history told.
               let is = stands lawful history told in
-              subst (λ (l : List Submitted). EachTellsHistory answers plan (history ++ l) (state c.into_disk.result)) (also history is)
-              (subst (λ (d : g.row.D.Denot). EachTellsHistory answers plan (history ++ more) (state d)) (sym c.into_disk.ensures.disk)
-              (subst (λ (p : List Line). EachTellsHistory answers p (history ++ more) (state new.device)) c.in-Ok.ensures.plan
-              (ended_all is_lawful state answers c.told_in_parts.ensures.together keeper new history more (by_keeper history is) carries held (left_lawful lawful))))) feeds.carried;
+              subst (λ (l : List Submitted). EachTellsHistory answers plan (history ++ l) (view c.into_disk.result).state) (also history is)
+              (subst (λ (d : g.row.D.Denot). EachTellsHistory answers plan (history ++ more) (view d).state) (sym c.into_disk.ensures.disk)
+              (subst (λ (p : List Line). EachTellsHistory answers p (history ++ more) (view new.device).state) c.in-Ok.ensures.plan
+              (ended_all view answers c.told_in_parts.ensures.together keeper new history more (by_keeper history is) carries held (left_lawful lawful))))) feeds.carried;
           safe = λ lawful history told.
               let is = stands lawful history told in
-              subst (λ (l : List Submitted). EachTellsSome answers plan history l (state c.into_disk.result)) (also history is)
-              (subst (λ (d : g.row.D.Denot). EachTellsSome answers plan history more (state d)) (sym c.into_disk.ensures.disk)
-              (subst (λ (p : List Line). EachTellsSome answers p history more (state new.device)) c.in-Ok.ensures.plan
-              (ended_some is_lawful state answers c.told_in_parts.ensures.together keeper new history more (by_keeper history is) (left_of r feeds) held (left_lawful lawful))));
-          said = fed_says is_lawful state failures answers marks r plan (c.args.workers == 1) old c.into_disk.result u v (wanted_by refuse limit raw) from;
+              subst (λ (l : List Submitted). EachTellsSome answers plan history l (view c.into_disk.result).state) (also history is)
+              (subst (λ (d : g.row.D.Denot). EachTellsSome answers plan history more (view d).state) (sym c.into_disk.ensures.disk)
+              (subst (λ (p : List Line). EachTellsSome answers p history more (view new.device).state) c.in-Ok.ensures.plan
+              (ended_some view answers c.told_in_parts.ensures.together keeper new history more (by_keeper history is) (left_of r feeds) held (left_lawful lawful))));
+          said = fed_says view answers marks r plan (c.args.workers == 1) old c.into_disk.result u v (wanted_by refuse limit raw) from;
         };
         held = λ hold lawful kept each.
             let at_most = most hold lawful kept each in
             let said = seen_placed raw.is_sound refuse told last raw.orders kept in
-            subst (λ (d : g.row.D.Denot). EachKeepsTo plan (seen_after kept raw.orders) (state d)) (sym c.into_disk.ensures.disk)
-            (subst (λ (p : List Line). EachKeepsTo p (seen_after kept raw.orders) (state new.device)) ((goes hold).plan ∙ c.in-Ok.ensures.plan)
+            subst (λ (d : g.row.D.Denot). EachKeepsTo plan (seen_after kept raw.orders) (view d).state) (sym c.into_disk.ensures.disk)
+            (subst (λ (p : List Line). EachKeepsTo p (seen_after kept raw.orders) (view new.device).state) ((goes hold).plan ∙ c.in-Ok.ensures.plan)
             (λ i image t told. let low = c.each_keeps_to_its_base.ensures (left_lawful lawful) i image t told in omega (arith, low, at_most, said)));
         ever_held = λ hold lawful kept each.
             let short = (c.driven_keeps_to_its_base.ensures driven.commands driven.replies keeper new (c.in-Ok.ensures.device.lawful.0 lawful) driven.driven).1 in
             let at_most = most hold lawful kept each in
             let said = seen_placed raw.is_sound refuse told last raw.orders kept in
             let far : new.base ≤ seen_after kept raw.orders = omega (arith, at_most, said) in
-            subst (λ (d : g.row.D.Denot). EverKeepsTo plan (seen_after kept raw.orders) (state old).moment (state d)) (sym c.into_disk.ensures.disk)
-            (ever plan (state old) (state keeper.device) (state new.device) kept new.base (seen_after kept raw.orders) (c.in-Ok.ensures.crash_safe lawful)
-            (subst (λ (p : List Line). KeepsSince p new.base (state keeper.device) (state new.device)) c.in-Ok.ensures.plan short) (seen_on kept raw.orders) far each);
+            subst (λ (d : g.row.D.Denot). EverKeepsTo plan (seen_after kept raw.orders) (view old).state.moment (view d).state) (sym c.into_disk.ensures.disk)
+            (ever plan (view old).state (view keeper.device).state (view new.device).state kept new.base (seen_after kept raw.orders) (c.in-Ok.ensures.crash_safe lawful)
+            (subst (λ (p : List Line). KeepsSince p new.base (view keeper.device).state (view new.device).state) c.in-Ok.ensures.plan short) (seen_on kept raw.orders) far each);
       };
       copied = record {
         made = copied.made;
         kept = copied.kept;
-        labelled = copied.labelled ∙ sym (says_copies is_lawful state failures answers marks r plan (c.args.workers == 1) old c.into_disk.result u v (wanted_by refuse limit raw) from);
+        labelled = copied.labelled ∙ sym (says_copies view answers marks r plan (c.args.workers == 1) old c.into_disk.result u v (wanted_by refuse limit raw) from);
         each = λ lawful history told.
             let is = stands lawful history told in
-            subst (λ (l : List Submitted). All (IsCopyOf lawful_new state_new answers plan (history ++ l)) copied.made) (also history is)
-            (subst (λ (p : List Line). All (IsCopyOf lawful_new state_new answers p (history ++ more)) copied.made) c.in-Ok.ensures.plan
+            subst (λ (l : List Submitted). All (IsCopyOf new_view answers plan (history ++ l)) copied.made) (also history is)
+            (subst (λ (p : List Line). All (IsCopyOf new_view answers p (history ++ more)) copied.made) c.in-Ok.ensures.plan
             (copied.each (c.in-Ok.ensures.device.lawful.0 lawful) history (by_keeper history is)));
       };
     })
 
 pub returns-clause-seen : goal.returns-clause-seen
 returns-clause-seen g c = λ fits.
-    let is_lawful = g.D.Disk.is_lawful in
-    let state = g.D.Disk.state in
+    let view = g.D.Disk.view in
     let plan = c.args.plan.now in
     let old = c.args.disk in
     let keeper : Keeping g.row.D.Denot = (record c.in-Ok.keeper { watch = c.watched-keeper.ensures.aside.0 }) in
@@ -295,9 +288,9 @@ returns-clause-seen g c = λ fits.
       records = keeper.head.shape.m;
       standing = keeper.standing;
       told = λ lawful.
-          let safe : CrashSafe Unchanged (state old) (state keeper.device) = c.in-Ok.ensures.crash_safe lawful in
+          let safe : CrashSafe Unchanged (view old).state (view keeper.device).state = c.in-Ok.ensures.crash_safe lawful in
           let sound = c.in-Ok.ensures.device.lawful.0 lawful in
-          let was = safe.each (state keeper.device).bytes (g.met.D.Disk.counts_now keeper.device (state old).moment (state keeper.device).bytes sound safe.later (g.met.D.Disk.reads_image keeper.device sound)) in
+          let was = safe.each (view keeper.device).state.bytes (g.met.D.Disk.counts_now keeper.device (view old).state.moment (view keeper.device).state.bytes sound safe.later (g.met.D.Disk.reads_image keeper.device sound)) in
           (was.0, was.1, subst (λ (i : List ℕ). Told plan i (Ok keeper.standing)) was.2 (c.in-Ok.ensures.told lawful));
       seen = subst (λ (k : Keeping g.row.D.Denot). TellsSeen r (first_seen hold k.standing.epoch) (orders_at k) before after) c.watched-keeper.ensures.aside.1 (known _ remaining input is c.obey-keeper.ensures.seen);
     }))

@@ -11,7 +11,7 @@ use Rattle.td_feed.proofs.telling.tell.Goals as goal
 
 pub unless_refused-requires : goal.unless_refused-requires
 unless_refused-requires g c =
-    record { new = not_repeated g.D.Disk.is_lawful g.D.Disk.state g.D.Disk.failures g.L.Law.answers c.args.command c.tell_one.result (g.E.Obey.keeping c.args.engine.now) (g.E.Obey.keeping c.tell_one.new.engine) c.tell_one.ensures.told.obeyed c.requires.rising }
+    record { new = not_repeated g.D.Disk.view g.L.Law.answers c.args.command c.tell_one.result (g.E.Obey.keeping c.args.engine.now) (g.E.Obey.keeping c.tell_one.new.engine) c.tell_one.ensures.told.obeyed c.requires.rising }
 
 pub returns-clause-disk : goal.returns-clause-disk
 returns-clause-disk g c =
@@ -21,26 +21,24 @@ returns-clause-disk g c =
       size = c.tell_one.ensures.size;
       lawful = c.tell_one.ensures.lawful;
       counts =
-          counts_told c.unless_refused.result reply (g.D.Disk.failures (g.E.Obey.keeping c.args.engine.now).device) (g.D.Disk.failures (g.E.Obey.keeping c.tell_one.new.engine).device) c.unless_refused.ensures.ok c.unless_refused.ensures.refused told.counted
+          counts_told c.unless_refused.result reply (g.D.Disk.view (g.E.Obey.keeping c.args.engine.now).device).failures (g.D.Disk.view (g.E.Obey.keeping c.tell_one.new.engine).device).failures c.unless_refused.ensures.ok c.unless_refused.ensures.refused told.counted
           (λ is. (told.fails (sym (or_false (is_failed reply)) ∙ is)).risen)
           (λ none. (told.whole (sym (or_false (is_failed reply)) ∙ none)).1);
     }
 
 pub returns-clause-obeyed : goal.returns-clause-obeyed
 returns-clause-obeyed g c =
-    let is_lawful = g.D.Disk.is_lawful in
-    let state = g.D.Disk.state in
-    let failures = g.D.Disk.failures in
+    let view = g.D.Disk.view in
     let answers = g.L.Law.answers in
     let old = g.E.Obey.keeping c.args.engine.now in
     let new = g.E.Obey.keeping c.tell_one.new.engine in
     let told = c.tell_one.ensures.told in
-    ok_of c.unless_refused.result c.tell_one.result (λ (r : Reply). IsObeyed is_lawful state failures answers c.args.command r old new) c.unless_refused.ensures.ok
+    ok_of c.unless_refused.result c.tell_one.result (λ (r : Reply). IsObeyed view answers c.args.command r old new) c.unless_refused.ensures.ok
     (λ none. record {
       obeyed = told.obeyed;
       driven = told.driven;
       done = none;
-      carried = carry is_lawful state failures answers c.others_rest.ensures c.advance_stands.ensures.each c.standings_advance.ensures.cut c.args.command c.tell_one.result old new told.kept told.obeyed c.requires.whole none;
+      carried = carry view answers c.others_rest.ensures c.advance_stands.ensures.each c.standings_advance.ensures.cut c.args.command c.tell_one.result old new told.kept told.obeyed c.requires.whole none;
     })
 
 pub returns-clause-own : goal.returns-clause-own
@@ -51,9 +49,7 @@ returns-clause-own g c = λ alone.
 
 pub returns-clause-refused : goal.returns-clause-refused
 returns-clause-refused g c =
-    let is_lawful = g.D.Disk.is_lawful in
-    let state = g.D.Disk.state in
-    let failures = g.D.Disk.failures in
+    let view = g.D.Disk.view in
     let answers = g.L.Law.answers in
     let command : Command = c.args.command in
     let reply : Reply = c.tell_one.result in
@@ -61,19 +57,19 @@ returns-clause-refused g c =
     let new = g.E.Obey.keeping c.tell_one.new.engine in
     let told = c.tell_one.ensures.told in
     let lawful_back = c.tell_one.ensures.lawful.1 in
-    err_of c.unless_refused.result reply (IsNotObeyed is_lawful state failures answers command old new) (λ f. f ≡ fault_in reply) c.unless_refused.ensures.refused
+    err_of c.unless_refused.result reply (IsNotObeyed view answers command old new) (λ f. f ≡ fault_in reply) c.unless_refused.ensures.refused
     (λ is. record {
       refused = inr (reply, is, told.driven);
       left =
-          refused_any is_lawful state failures answers c.advance_stands.ensures.each old new c.requires.whole lawful_back
-          (λ lawful i image. g.met.D.Disk.counts_now new.device (state old.device).moment i lawful (told.further (lawful_back lawful) c.requires.whole).later image)
+          refused_any view answers c.advance_stands.ensures.each old new c.requires.whole lawful_back
+          (λ lawful i image. g.met.D.Disk.counts_now new.device (view old.device).state.moment i lawful (told.further (lawful_back lawful) c.requires.whole).later image)
           c.others_rest.ensures command reply is told.obeyed c.requires.rising
           (λ lawful. told.images lawful c.requires.whole);
     })
 
 pub returns-clause-rests : goal.returns-clause-rests
 returns-clause-rests g c =
-    rest g.D.Disk.is_lawful g.D.Disk.state g.D.Disk.failures g.L.Law.answers c.others_rest.ensures c.args.command c.tell_one.result (g.E.Obey.keeping c.args.engine.now) (g.E.Obey.keeping c.tell_one.new.engine) c.tell_one.ensures.told.obeyed c.requires.whole
+    rest g.D.Disk.view g.L.Law.answers c.others_rest.ensures c.args.command c.tell_one.result (g.E.Obey.keeping c.args.engine.now) (g.E.Obey.keeping c.tell_one.new.engine) c.tell_one.ensures.told.obeyed c.requires.whole
 
 pub returns-clause-base : goal.returns-clause-base
-returns-clause-base g c = moves g.D.Disk.is_lawful g.D.Disk.state g.D.Disk.failures g.L.Law.answers c.args.command c.tell_one.result (g.E.Obey.keeping c.args.engine.now) (g.E.Obey.keeping c.tell_one.new.engine) c.tell_one.ensures.told.obeyed
+returns-clause-base g c = moves g.D.Disk.view g.L.Law.answers c.args.command c.tell_one.result (g.E.Obey.keeping c.args.engine.now) (g.E.Obey.keeping c.tell_one.new.engine) c.tell_one.ensures.told.obeyed

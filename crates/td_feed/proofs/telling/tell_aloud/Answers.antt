@@ -24,30 +24,26 @@ returns-clause-obeyed g c = at_ok c.say.result (c.in_ok-reply.reply, c.in_ok-rep
 
 pub returns-clause-acknowledged : goal.returns-clause-acknowledged
 returns-clause-acknowledged g c =
-    let is_lawful = g.D.Disk.is_lawful in
-    let state = g.D.Disk.state in
-    let failures = g.D.Disk.failures in
+    let view = g.D.Disk.view in
     let answers = g.L.Law.answers in
     let old = g.E.Obey.keeping c.args.engine.now in
     let new = g.E.Obey.keeping c.tell.new.engine in
-    let is = submitted_is is_lawful state failures answers c.args.command c.in_ok-reply.reply old new c.in_ok-reply.ensures.obeyed.obeyed c.in_ok-reply.ensures.obeyed.done c.requires.rising in
+    let is = submitted_is view answers c.args.command c.in_ok-reply.reply old new c.in_ok-reply.ensures.obeyed.obeyed c.in_ok-reply.ensures.obeyed.done c.requires.rising in
     inr (subst (λ (x : List Submitted). Carries answers old new x) is c.in_ok-reply.ensures.obeyed.carried)
 
 pub returns-clause-fed : goal.returns-clause-fed
 returns-clause-fed g c =
-    let is_lawful = g.D.Disk.is_lawful in
-    let state = g.D.Disk.state in
-    let failures = g.D.Disk.failures in
+    let view = g.D.Disk.view in
     let answers = g.L.Law.answers in
     let marks = g.W.Voice.marks in
     let old = g.E.Obey.keeping c.args.engine.now in
     let new = g.E.Obey.keeping c.tell.new.engine in
-    let is = submitted_is is_lawful state failures answers c.args.command c.in_ok-reply.reply old new c.in_ok-reply.ensures.obeyed.obeyed c.in_ok-reply.ensures.obeyed.done c.requires.rising in
+    let is = submitted_is view answers c.args.command c.in_ok-reply.reply old new c.in_ok-reply.ensures.obeyed.obeyed c.in_ok-reply.ensures.obeyed.done c.requires.rising in
     let x : List Submitted = new_to old (batch_in c.args.command) in
     let carried : Carries answers old new x = subst (λ (l : List Submitted). Carries answers old new l) is c.in_ok-reply.ensures.obeyed.carried in
     record {
       carried = at_ok c.say.result carried;
-      left = at_err c.say.result (leaves_all is_lawful state answers old new x carried);
-      said = said_by is_lawful state failures answers marks c.say.result (g.W.Sink.contents c.args.writer.now) (g.W.Sink.contents c.say.new.writer) c.args.command c.in_ok-reply.reply old new x (c.say.new.writer ≡ c.args.writer.now) c.in_ok-reply.ensures.obeyed.driven is
+      left = at_err c.say.result (leaves_all view answers old new x carried);
+      said = said_by view answers marks c.say.result (g.W.Sink.contents c.args.writer.now) (g.W.Sink.contents c.say.new.writer) c.args.command c.in_ok-reply.reply old new x (c.say.new.writer ≡ c.args.writer.now) c.in_ok-reply.ensures.obeyed.driven is
           (subst (λ (n : ℕ). OnOk c.say.result (Appends (g.W.Sink.contents c.args.writer.now) (g.W.Sink.contents c.say.new.writer) (line_of marks n c.in_ok-reply.reply))) c.request_in-request.ensures c.say.ensures.said) c.say.ensures.unsaid (λ same. ap g.W.Sink.contents same);
     }

@@ -7,4 +7,4 @@ pub returns-clause-driven : goal.returns-clause-driven
 returns-clause-driven g c = (g.E.Obey.keeping c.next_out-out.new.self, c.each_at_work_is_kept.ensures, c.next_out-out.ensures, refl)
 
 pub returns-clause-base : goal.returns-clause-base
-returns-clause-base g c = hands_out g.D.Disk.is_lawful g.D.Disk.state g.D.Disk.failures g.L.Law.answers (Out c.next_out-out.result) (g.E.Obey.keeping c.args.engine.now) (g.E.Obey.keeping c.next_out-out.new.self) c.next_out-out.ensures
+returns-clause-base g c = hands_out g.D.Disk.view g.L.Law.answers (Out c.next_out-out.result) (g.E.Obey.keeping c.args.engine.now) (g.E.Obey.keeping c.next_out-out.new.self) c.next_out-out.ensures

@@ -20,7 +20,7 @@ nil_of (x ∷ l) n is many = absurd (let none : n ≡ 0 = eqb-true n 0 is in ome
 
 pub loop-out-init : goal.loop-out-init
 loop-out-init g c = record {
-  said = holding_nothing g.D.Disk.is_lawful g.D.Disk.state g.D.Disk.failures g.L.Law.answers g.W.Voice.marks (g.W.Sink.contents c.args.writer.now) (g.E.Obey.keeping c.args.engine.now) (string_bytes c.new-text.result) c.new-text.ensures.bytes;
+  said = holding_nothing g.D.Disk.view g.L.Law.answers g.W.Voice.marks (g.W.Sink.contents c.args.writer.now) (g.E.Obey.keeping c.args.engine.now) (string_bytes c.new-text.result) c.new-text.ensures.bytes;
   carried = unmoved g.L.Law.answers (g.E.Obey.keeping c.args.engine.now) (g.E.Obey.keeping c.args.engine.now) refl refl c.requires.whole;
   device = refl;
   standing = refl;
@@ -30,9 +30,7 @@ loop-out-init g c = record {
 
 pub loop-out-preserved : goal.loop-out-preserved
 loop-out-preserved g c =
-    let is_lawful = g.D.Disk.is_lawful in
-    let state = g.D.Disk.state in
-    let failures = g.D.Disk.failures in
+    let view = g.D.Disk.view in
     let answers = g.L.Law.answers in
     let marks = g.W.Voice.marks in
     let u = g.W.Sink.contents c.args.writer.now in
@@ -43,14 +41,14 @@ loop-out-preserved g c =
     let held = string_bytes c.loop-out.text in
     let so_far = c.loop-out.invariant in
     let o : Option EpochOut = c.next_out.result in
-    let more = holding_more is_lawful state failures answers marks u v old there new o held (held ++ line_of marks 0 (Out o)) so_far.said c.next_out.ensures.driven refl in
+    let more = holding_more view answers marks u v old there new o held (held ++ line_of marks 0 (Out o)) so_far.said c.next_out.ensures.driven refl in
     let printed : string_bytes c.print_out.new.lines ≡ held ++ line_of marks 0 (Out (Some c.in-Some.out)) =
     c.in_ok-print_out.ensures.ok ∙ ap (λ (m : Bool). held ++ out_lines m c.in-Some.out) c.is_marking-marks.ensures in
     let is : held ++ line_of marks 0 (Out o) ≡ string_bytes c.print_out.new.lines = ap (λ (p : Option EpochOut). held ++ line_of marks 0 (Out p)) c.in-Some.is ∙ sym printed in
     record {
-      said = holding_piece is_lawful state failures answers marks g.W.Sink.contents string_bytes u c.loop-out.writer c.write_piece.new.writer old new c.print_out.new.lines c.write_piece.new.text
-          (holding_more is_lawful state failures answers marks u v old there new o held (string_bytes c.print_out.new.lines) so_far.said c.next_out.ensures.driven (sym is)) c.in_ok-write_piece.ensures.ok;
-      carried = carries_after is_lawful state answers old there new [] so_far.carried c.next_out.ensures.carried;
+      said = holding_piece view answers marks g.W.Sink.contents string_bytes u c.loop-out.writer c.write_piece.new.writer old new c.print_out.new.lines c.write_piece.new.text
+          (holding_more view answers marks u v old there new o held (string_bytes c.print_out.new.lines) so_far.said c.next_out.ensures.driven (sym is)) c.in_ok-write_piece.ensures.ok;
+      carried = carries_after view answers old there new [] so_far.carried c.next_out.ensures.carried;
       device = c.next_out.ensures.device ∙ so_far.device;
       standing = c.next_out.ensures.stands.0 ∙ so_far.standing;
       collected = c.next_out.ensures.stands.1 ∙ so_far.collected;
@@ -59,9 +57,7 @@ loop-out-preserved g c =
 
 pub returns-in_err-print_out-clause-fed : goal.returns-in_err-print_out-clause-fed
 returns-in_err-print_out-clause-fed g c =
-    let is_lawful = g.D.Disk.is_lawful in
-    let state = g.D.Disk.state in
-    let failures = g.D.Disk.failures in
+    let view = g.D.Disk.view in
     let answers = g.L.Law.answers in
     let marks = g.W.Voice.marks in
     let u = g.W.Sink.contents c.args.writer.now in
@@ -72,9 +68,9 @@ returns-in_err-print_out-clause-fed g c =
     let held = string_bytes c.loop-out.text in
     let so_far = c.loop-out.invariant in
     let o : Option EpochOut = c.next_out.result in
-    let more = holding_more is_lawful state failures answers marks u v old there new o held (held ++ line_of marks 0 (Out o)) so_far.said c.next_out.ensures.driven refl in
-    fed_quiet c.from_residual.result (carries_after g.D.Disk.is_lawful g.D.Disk.state g.L.Law.answers (g.E.Obey.keeping c.args.engine.now) (g.E.Obey.keeping c.loop-out.engine) (g.E.Obey.keeping c.next_out.new.engine) [] c.loop-out.invariant.carried c.next_out.ensures.carried)
-    (by_refusal is_lawful state failures answers marks c.from_residual.result (λ (f : Fault). f ≡ c.in_err-print_out.field-0.0) u v old new [] [] c.from_residual.ensures.1
+    let more = holding_more view answers marks u v old there new o held (held ++ line_of marks 0 (Out o)) so_far.said c.next_out.ensures.driven refl in
+    fed_quiet c.from_residual.result (carries_after g.D.Disk.view g.L.Law.answers (g.E.Obey.keeping c.args.engine.now) (g.E.Obey.keeping c.loop-out.engine) (g.E.Obey.keeping c.next_out.new.engine) [] c.loop-out.invariant.carried c.next_out.ensures.carried)
+    (by_refusal view answers marks c.from_residual.result (λ (f : Fault). f ≡ c.in_err-print_out.field-0.0) u v old new [] [] c.from_residual.ensures.1
     (λ f is. inr more.some))
 
 pub returns-in_err-print_out-clause-disk : goal.returns-in_err-print_out-clause-disk
@@ -84,9 +80,7 @@ returns-in_err-print_out-clause-disk g c =
 
 pub returns-in_err-write_piece-clause-fed : goal.returns-in_err-write_piece-clause-fed
 returns-in_err-write_piece-clause-fed g c =
-    let is_lawful = g.D.Disk.is_lawful in
-    let state = g.D.Disk.state in
-    let failures = g.D.Disk.failures in
+    let view = g.D.Disk.view in
     let answers = g.L.Law.answers in
     let marks = g.W.Voice.marks in
     let u = g.W.Sink.contents c.args.writer.now in
@@ -97,10 +91,10 @@ returns-in_err-write_piece-clause-fed g c =
     let held = string_bytes c.loop-out.text in
     let so_far = c.loop-out.invariant in
     let o : Option EpochOut = c.next_out.result in
-    let more = holding_more is_lawful state failures answers marks u v old there new o held (held ++ line_of marks 0 (Out o)) so_far.said c.next_out.ensures.driven refl in
-    fed_quiet c.from_residual-in_err-write_piece.result (carries_after g.D.Disk.is_lawful g.D.Disk.state g.L.Law.answers (g.E.Obey.keeping c.args.engine.now) (g.E.Obey.keeping c.loop-out.engine) (g.E.Obey.keeping c.next_out.new.engine) [] c.loop-out.invariant.carried c.next_out.ensures.carried)
-    (by_refusal is_lawful state failures answers marks c.from_residual-in_err-write_piece.result (λ (f : Fault). f ≡ c.in_err-write_piece.field-0.0) u (g.W.Sink.contents c.write_piece.new.writer) old new [] []
-    c.from_residual-in_err-write_piece.ensures.1 (λ f is. inl (is ∙ c.in_err-write_piece.ensures.err, unheard is_lawful state failures answers marks u v old new [] more.some)))
+    let more = holding_more view answers marks u v old there new o held (held ++ line_of marks 0 (Out o)) so_far.said c.next_out.ensures.driven refl in
+    fed_quiet c.from_residual-in_err-write_piece.result (carries_after g.D.Disk.view g.L.Law.answers (g.E.Obey.keeping c.args.engine.now) (g.E.Obey.keeping c.loop-out.engine) (g.E.Obey.keeping c.next_out.new.engine) [] c.loop-out.invariant.carried c.next_out.ensures.carried)
+    (by_refusal view answers marks c.from_residual-in_err-write_piece.result (λ (f : Fault). f ≡ c.in_err-write_piece.field-0.0) u (g.W.Sink.contents c.write_piece.new.writer) old new [] []
+    c.from_residual-in_err-write_piece.ensures.1 (λ f is. inl (is ∙ c.in_err-write_piece.ensures.err, unheard view answers marks u v old new [] more.some)))
 
 pub returns-in_err-write_piece-clause-disk : goal.returns-in_err-write_piece-clause-disk
 returns-in_err-write_piece-clause-disk g c =
@@ -109,9 +103,7 @@ returns-in_err-write_piece-clause-disk g c =
 
 pub returns-then-is_empty-clause-fed : goal.returns-then-is_empty-clause-fed
 returns-then-is_empty-clause-fed g c =
-    let is_lawful = g.D.Disk.is_lawful in
-    let state = g.D.Disk.state in
-    let failures = g.D.Disk.failures in
+    let view = g.D.Disk.view in
     let answers = g.L.Law.answers in
     let marks = g.W.Voice.marks in
     let u = g.W.Sink.contents c.args.writer.now in
@@ -122,19 +114,17 @@ returns-then-is_empty-clause-fed g c =
     let held = string_bytes c.loop-out.text in
     let so_far = c.loop-out.invariant in
     let o : Option EpochOut = c.next_out.result in
-    let more = holding_more is_lawful state failures answers marks u v old there new o held (held ++ line_of marks 0 (Out o)) so_far.said c.next_out.ensures.driven refl in
-    let line = none_out is_lawful state failures answers marks o c.in_default.not-Some in
+    let more = holding_more view answers marks u v old there new o held (held ++ line_of marks 0 (Out o)) so_far.said c.next_out.ensures.driven refl in
+    let line = none_out view answers marks o c.in_default.not-Some in
     let empty : held ≡ [] = nil_of held (string_len c.loop-out.text) (sym c.is_empty.ensures ∙ c.if-is_empty.true) c.loop-out.text.bytes.ok.0 in
-    record { carried = (carries_after g.D.Disk.is_lawful g.D.Disk.state g.L.Law.answers (g.E.Obey.keeping c.args.engine.now) (g.E.Obey.keeping c.loop-out.engine) (g.E.Obey.keeping c.next_out.new.engine) [] c.loop-out.invariant.carried c.next_out.ensures.carried); left = tt; said = all_written is_lawful state failures answers marks u v old new (held ++ line_of marks 0 (Out o)) more (ap (λ (l : List ℕ). l ++ line_of marks 0 (Out o)) empty ∙ line) }
+    record { carried = (carries_after g.D.Disk.view g.L.Law.answers (g.E.Obey.keeping c.args.engine.now) (g.E.Obey.keeping c.loop-out.engine) (g.E.Obey.keeping c.next_out.new.engine) [] c.loop-out.invariant.carried c.next_out.ensures.carried); left = tt; said = all_written view answers marks u v old new (held ++ line_of marks 0 (Out o)) more (ap (λ (l : List ℕ). l ++ line_of marks 0 (Out o)) empty ∙ line) }
 
 pub returns-then-is_empty-clause-disk : goal.returns-then-is_empty-clause-disk
 returns-then-is_empty-clause-disk g c = disk_same _ (c.next_out.ensures.device ∙ c.loop-out.invariant.device) (ok_no_device tt)
 
 pub returns-clause-fed : goal.returns-clause-fed
 returns-clause-fed g c =
-    let is_lawful = g.D.Disk.is_lawful in
-    let state = g.D.Disk.state in
-    let failures = g.D.Disk.failures in
+    let view = g.D.Disk.view in
     let answers = g.L.Law.answers in
     let marks = g.W.Voice.marks in
     let u = g.W.Sink.contents c.args.writer.now in
@@ -145,37 +135,37 @@ returns-clause-fed g c =
     let held = string_bytes c.loop-out.text in
     let so_far = c.loop-out.invariant in
     let o : Option EpochOut = c.next_out.result in
-    let more = holding_more is_lawful state failures answers marks u v old there new o held (held ++ line_of marks 0 (Out o)) so_far.said c.next_out.ensures.driven refl in
+    let more = holding_more view answers marks u v old there new o held (held ++ line_of marks 0 (Out o)) so_far.said c.next_out.ensures.driven refl in
     let w = g.W.Sink.contents c.write_answer.new.writer in
-    let line = none_out is_lawful state failures answers marks o c.in_default.not-Some in
+    let line = none_out view answers marks o c.in_default.not-Some in
     let is : c.as_str.result.now ≡ held ++ line_of marks 0 (Out o) = c.as_str.ensures.value ∙ sym (append-nil held) ∙ ap (λ (l : List ℕ). held ++ l) (sym line) in
-    fed_quiet c.write_answer.result (carries_after g.D.Disk.is_lawful g.D.Disk.state g.L.Law.answers (g.E.Obey.keeping c.args.engine.now) (g.E.Obey.keeping c.loop-out.engine) (g.E.Obey.keeping c.next_out.new.engine) [] c.loop-out.invariant.carried c.next_out.ensures.carried)
-    (last_written is_lawful state failures answers marks c.write_answer.result u v w old new (held ++ line_of marks 0 (Out o)) more
+    fed_quiet c.write_answer.result (carries_after g.D.Disk.view g.L.Law.answers (g.E.Obey.keeping c.args.engine.now) (g.E.Obey.keeping c.loop-out.engine) (g.E.Obey.keeping c.next_out.new.engine) [] c.loop-out.invariant.carried c.next_out.ensures.carried)
+    (last_written view answers marks c.write_answer.result u v w old new (held ++ line_of marks 0 (Out o)) more
     (subst (λ (t : List ℕ). OnOk c.write_answer.result (Appends v w t)) is c.write_answer.ensures.written) c.write_answer.ensures.err)
 
 pub returns-clause-disk : goal.returns-clause-disk
 returns-clause-disk g c = disk_same c.write_answer.result (c.next_out.ensures.device ∙ c.loop-out.invariant.device) (output_no_device c.write_answer.result c.write_answer.ensures.err)
 
 pub returns-in_err-print_out-clause-rests : goal.returns-in_err-print_out-clause-rests
-returns-in_err-print_out-clause-rests g c = carries_after g.D.Disk.is_lawful g.D.Disk.state g.L.Law.answers (g.E.Obey.keeping c.args.engine.now) (g.E.Obey.keeping c.loop-out.engine) (g.E.Obey.keeping c.next_out.new.engine) [] c.loop-out.invariant.carried c.next_out.ensures.carried
+returns-in_err-print_out-clause-rests g c = carries_after g.D.Disk.view g.L.Law.answers (g.E.Obey.keeping c.args.engine.now) (g.E.Obey.keeping c.loop-out.engine) (g.E.Obey.keeping c.next_out.new.engine) [] c.loop-out.invariant.carried c.next_out.ensures.carried
 
 pub returns-in_err-print_out-clause-stands : goal.returns-in_err-print_out-clause-stands
 returns-in_err-print_out-clause-stands g c = (c.next_out.ensures.stands.0 ∙ c.loop-out.invariant.standing, c.next_out.ensures.stands.1 ∙ c.loop-out.invariant.collected)
 
 pub returns-in_err-write_piece-clause-rests : goal.returns-in_err-write_piece-clause-rests
-returns-in_err-write_piece-clause-rests g c = carries_after g.D.Disk.is_lawful g.D.Disk.state g.L.Law.answers (g.E.Obey.keeping c.args.engine.now) (g.E.Obey.keeping c.loop-out.engine) (g.E.Obey.keeping c.next_out.new.engine) [] c.loop-out.invariant.carried c.next_out.ensures.carried
+returns-in_err-write_piece-clause-rests g c = carries_after g.D.Disk.view g.L.Law.answers (g.E.Obey.keeping c.args.engine.now) (g.E.Obey.keeping c.loop-out.engine) (g.E.Obey.keeping c.next_out.new.engine) [] c.loop-out.invariant.carried c.next_out.ensures.carried
 
 pub returns-in_err-write_piece-clause-stands : goal.returns-in_err-write_piece-clause-stands
 returns-in_err-write_piece-clause-stands g c = (c.next_out.ensures.stands.0 ∙ c.loop-out.invariant.standing, c.next_out.ensures.stands.1 ∙ c.loop-out.invariant.collected)
 
 pub returns-then-is_empty-clause-rests : goal.returns-then-is_empty-clause-rests
-returns-then-is_empty-clause-rests g c = carries_after g.D.Disk.is_lawful g.D.Disk.state g.L.Law.answers (g.E.Obey.keeping c.args.engine.now) (g.E.Obey.keeping c.loop-out.engine) (g.E.Obey.keeping c.next_out.new.engine) [] c.loop-out.invariant.carried c.next_out.ensures.carried
+returns-then-is_empty-clause-rests g c = carries_after g.D.Disk.view g.L.Law.answers (g.E.Obey.keeping c.args.engine.now) (g.E.Obey.keeping c.loop-out.engine) (g.E.Obey.keeping c.next_out.new.engine) [] c.loop-out.invariant.carried c.next_out.ensures.carried
 
 pub returns-then-is_empty-clause-stands : goal.returns-then-is_empty-clause-stands
 returns-then-is_empty-clause-stands g c = (c.next_out.ensures.stands.0 ∙ c.loop-out.invariant.standing, c.next_out.ensures.stands.1 ∙ c.loop-out.invariant.collected)
 
 pub returns-clause-rests : goal.returns-clause-rests
-returns-clause-rests g c = carries_after g.D.Disk.is_lawful g.D.Disk.state g.L.Law.answers (g.E.Obey.keeping c.args.engine.now) (g.E.Obey.keeping c.loop-out.engine) (g.E.Obey.keeping c.next_out.new.engine) [] c.loop-out.invariant.carried c.next_out.ensures.carried
+returns-clause-rests g c = carries_after g.D.Disk.view g.L.Law.answers (g.E.Obey.keeping c.args.engine.now) (g.E.Obey.keeping c.loop-out.engine) (g.E.Obey.keeping c.next_out.new.engine) [] c.loop-out.invariant.carried c.next_out.ensures.carried
 
 pub returns-clause-stands : goal.returns-clause-stands
 returns-clause-stands g c = (c.next_out.ensures.stands.0 ∙ c.loop-out.invariant.standing, c.next_out.ensures.stands.1 ∙ c.loop-out.invariant.collected)

@@ -8,7 +8,7 @@ use Rattle.td_feed.proofs.under_way.write_outs.Given as goal
 -- the keeper has gone on, with nothing submitted, and the lines of its replies are written or held
 abbrev pub invariant-loop-out : goal.invariant-loop-out
 invariant-loop-out g l = record {
-  said : Holding g.D.Disk.is_lawful g.D.Disk.state g.D.Disk.failures g.L.Law.answers g.W.Voice.marks (g.W.Sink.contents l.fn.writer) (g.W.Sink.contents l.writer) (g.E.Obey.keeping l.fn.engine) (g.E.Obey.keeping l.engine) (string_bytes l.text);
+  said : Holding g.D.Disk.view g.L.Law.answers g.W.Voice.marks (g.W.Sink.contents l.fn.writer) (g.W.Sink.contents l.writer) (g.E.Obey.keeping l.fn.engine) (g.E.Obey.keeping l.engine) (string_bytes l.text);
   carried : Carries g.L.Law.answers (g.E.Obey.keeping l.fn.engine) (g.E.Obey.keeping l.engine) [];
   device : (g.E.Obey.keeping l.engine).device ≡ (g.E.Obey.keeping l.fn.engine).device;
   standing : (g.E.Obey.keeping l.engine).standing ≡ (g.E.Obey.keeping l.fn.engine).standing;

@@ -3,11 +3,11 @@ use Rattle.std.specs.Prelude.{Ok, Result}
 use Rattle.td_plan.specs.Lines.{Line}
 use Rattle.td_gate.specs.CrashSafe.{CrashSafe, Unchanged}
 use Rattle.td_head.specs.Head.{raised}
-use Rattle.td_standing.specs.Stops.{Stands}
-use Rattle.td_standing.specs.Told.{Told}
-use Rattle.td_standing.specs.Tells.{Keeps}
-use Rattle.td_standing.specs.Advanced.{HeldWhere, states_by}
-use Rattle.td_standing.specs.declared.error.KeeperError.{KeeperError}
+use Rattle.td_store.specs.standing.Stops.{Stands}
+use Rattle.td_store.specs.standing.Told.{Told}
+use Rattle.td_store.specs.standing.Tells.{Keeps}
+use Rattle.td_store.specs.standing.Advanced.{HeldWhere, states_by}
+use Rattle.td_store.specs.declared.standing.error.KeeperError.{KeeperError}
 use Rattle.td_keeper.specs.Keeping.{Keeping}
 use Rattle.td_feed.proofs.Carrying.{at_ok, still_each, found}
 use Rattle.td_feed.proofs.upgrading.upgrade.Goals as goal
@@ -32,16 +32,16 @@ numbered old new false whole done already =
 
 pub returns-in-Err-clause-same : goal.returns-in-Err-clause-same
 returns-in-Err-clause-same g c lawful history told =
-    let state = g.D.Disk.state in
+    let view = g.D.Disk.view in
     let old = c.args.disk in
     let new = c.in-Err.disk in
-    let safe : CrashSafe Unchanged (state old) (state new) = c.in-Err.ensures.crash_safe lawful in
-    still_each g.L.Law.answers c.args.plan.now history (state old) (state new) safe
-    (λ i image. g.met.D.Disk.counts_now new (state old).moment i (c.in-Err.ensures.device.lawful.0 lawful) safe.later image) told
+    let safe : CrashSafe Unchanged (view old).state (view new).state = c.in-Err.ensures.crash_safe lawful in
+    still_each g.L.Law.answers c.args.plan.now history (view old).state (view new).state safe
+    (λ i image. g.met.D.Disk.counts_now new (view old).state.moment i (c.in-Err.ensures.device.lawful.0 lawful) safe.later image) told
 
 pub returns-in-Ok-upgrade-clause-same : goal.returns-in-Ok-upgrade-clause-same
 returns-in-Ok-upgrade-clause-same g c lawful history told image left =
-    let state = g.D.Disk.state in
+    let view = g.D.Disk.view in
     let answers = g.L.Law.answers in
     let old = c.args.disk in
     let plan = c.args.plan.now in
@@ -49,13 +49,13 @@ returns-in-Ok-upgrade-clause-same g c lawful history told image left =
     let new = c.upgrade.new.self in
     let now = c.in-Ok.ensures.device.lawful.0 lawful in
     let whole = c.in-Ok.ensures.fresh.whole in
-    let safe : CrashSafe Unchanged (state old) (state keeper.device) = c.in-Ok.ensures.crash_safe lawful in
+    let safe : CrashSafe Unchanged (view old).state (view keeper.device).state = c.in-Ok.ensures.crash_safe lawful in
     let stands : Stands (states_by answers plan) keeper.standing history =
-    found answers plan history (state old) (state keeper.device) safe
-    (λ i there. g.met.D.Disk.counts_now keeper.device (state old).moment i now safe.later there) told
+    found answers plan history (view old).state (view keeper.device).state safe
+    (λ i there. g.met.D.Disk.counts_now keeper.device (view old).state.moment i now safe.later there) told
     c.told_in_parts.ensures.one_answer (g.met.D.Disk.reads_image keeper.device now) keeper.standing (c.in-Ok.ensures.told lawful) in
-    let here : (state new.device).images image = subst (λ (d : g.row.D.Denot). (state d).images image) c.into_disk.ensures.disk left in
-    let since = g.met.D.Disk.counts_now new.device (state keeper.device).moment image (c.upgrade.ensures.device.lawful.0 now) (c.upgrade.ensures.later now whole) here in
+    let here : (view new.device).state.images image = subst (λ (d : g.row.D.Denot). (view d).state.images image) c.into_disk.ensures.disk left in
+    let since = g.met.D.Disk.counts_now new.device (view keeper.device).state.moment image (c.upgrade.ensures.device.lawful.0 now) (c.upgrade.ensures.later now whole) here in
     record {
       standing = keeper.standing;
       told = subst (λ (p : List Line). Told p image (Ok keeper.standing)) c.in-Ok.ensures.plan (c.upgrade.ensures.told now whole image since);
@@ -64,7 +64,7 @@ returns-in-Ok-upgrade-clause-same g c lawful history told image left =
 
 pub returns-in-Err-upgrade-clause-same : goal.returns-in-Err-upgrade-clause-same
 returns-in-Err-upgrade-clause-same g c lawful history told image left =
-    let state = g.D.Disk.state in
+    let view = g.D.Disk.view in
     let answers = g.L.Law.answers in
     let old = c.args.disk in
     let plan = c.args.plan.now in
@@ -72,13 +72,13 @@ returns-in-Err-upgrade-clause-same g c lawful history told image left =
     let new = c.upgrade.new.self in
     let now = c.in-Ok.ensures.device.lawful.0 lawful in
     let whole = c.in-Ok.ensures.fresh.whole in
-    let safe : CrashSafe Unchanged (state old) (state keeper.device) = c.in-Ok.ensures.crash_safe lawful in
+    let safe : CrashSafe Unchanged (view old).state (view keeper.device).state = c.in-Ok.ensures.crash_safe lawful in
     let stands : Stands (states_by answers plan) keeper.standing history =
-    found answers plan history (state old) (state keeper.device) safe
-    (λ i there. g.met.D.Disk.counts_now keeper.device (state old).moment i now safe.later there) told
+    found answers plan history (view old).state (view keeper.device).state safe
+    (λ i there. g.met.D.Disk.counts_now keeper.device (view old).state.moment i now safe.later there) told
     c.told_in_parts.ensures.one_answer (g.met.D.Disk.reads_image keeper.device now) keeper.standing (c.in-Ok.ensures.told lawful) in
-    let here : (state new.device).images image = subst (λ (d : g.row.D.Denot). (state d).images image) c.into_disk-in-Err-upgrade.ensures.disk left in
-    let since = g.met.D.Disk.counts_now new.device (state keeper.device).moment image (c.upgrade.ensures.device.lawful.0 now) (c.upgrade.ensures.later now whole) here in
+    let here : (view new.device).state.images image = subst (λ (d : g.row.D.Denot). (view d).state.images image) c.into_disk-in-Err-upgrade.ensures.disk left in
+    let since = g.met.D.Disk.counts_now new.device (view keeper.device).state.moment image (c.upgrade.ensures.device.lawful.0 now) (c.upgrade.ensures.later now whole) here in
     record {
       standing = keeper.standing;
       told = subst (λ (p : List Line). Told p image (Ok keeper.standing)) c.in-Ok.ensures.plan (c.upgrade.ensures.told now whole image since);
@@ -88,18 +88,18 @@ returns-in-Err-upgrade-clause-same g c lawful history told image left =
 pub returns-in-Ok-upgrade-clause-raised : goal.returns-in-Ok-upgrade-clause-raised
 returns-in-Ok-upgrade-clause-raised g c =
     at_ok c.write_answer.result (λ lawful.
-    let state = g.D.Disk.state in
+    let view = g.D.Disk.view in
     let answers = g.L.Law.answers in
     let keeper = c.in-Ok.keeper in
     let new = c.upgrade.new.self in
     let facts = numbered keeper new c.in-Ok-upgrade._was_raised c.in-Ok.ensures.fresh.whole (λ e. c.in-Ok-upgrade.ensures.done (ap as_ok e)) (λ e. c.in-Ok-upgrade.ensures.already (ap as_ok e)) in
-    let holds : HeldWhere new.broken answers new.plan new.head new.side new.standing (state new.device) = c.each_disk_holds.ensures (c.upgrade.ensures.device.lawful.0 (c.in-Ok.ensures.device.lawful.0 lawful)) in
-    let keeps : Keeps new.plan new.head new.side new.standing (state new.device) = subst (λ (b : Bool). HeldWhere b answers new.plan new.head new.side new.standing (state new.device)) facts.1 holds in
+    let holds : HeldWhere new.broken answers new.plan new.head new.side new.standing (view new.device).state = c.each_disk_holds.ensures (c.upgrade.ensures.device.lawful.0 (c.in-Ok.ensures.device.lawful.0 lawful)) in
+    let keeps : Keeps new.plan new.head new.side new.standing (view new.device).state = subst (λ (b : Bool). HeldWhere b answers new.plan new.head new.side new.standing (view new.device).state) facts.1 holds in
     record {
       head = new.head;
       version = facts.0;
       side = new.side;
       standing = new.standing;
-      keeps = subst (λ (d : g.row.D.Denot). Keeps c.args.plan.now new.head new.side new.standing (state d)) (sym c.into_disk.ensures.disk)
-          (subst (λ (p : List Line). Keeps p new.head new.side new.standing (state new.device)) (facts.2 ∙ c.in-Ok.ensures.plan) keeps);
+      keeps = subst (λ (d : g.row.D.Denot). Keeps c.args.plan.now new.head new.side new.standing (view d).state) (sym c.into_disk.ensures.disk)
+          (subst (λ (p : List Line). Keeps p new.head new.side new.standing (view new.device).state) (facts.2 ∙ c.in-Ok.ensures.plan) keeps);
     })

@@ -1,6 +1,6 @@
 use Rattle.std.proofs.Common.{refl}
 use Rattle.td_feed.proofs.Counting.{memory_no_device}
-use Rattle.td_standing.specs.Standing.{last_epoch, last_request}
+use Rattle.td_store.specs.standing.Standing.{last_epoch, last_request}
 use Rattle.td_feed.proofs.Sessions.{in_some_is, disk_same, none_fed}
 use Rattle.td_feed.specs.Held.{seen_at, then_seen}
 use Rattle.td_feed.proofs.SeenAsked.{tells_nothing}

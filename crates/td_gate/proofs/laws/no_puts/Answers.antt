@@ -13,8 +13,8 @@ returns-clause-none g c d lawful = record {
 pub returns-clause-begun : goal.returns-clause-begun
 returns-clause-begun g c old new lawful no_new time =
     let laws = g.met.D.Disk in
-    let state = g.D.Disk.state in
-    one_call (PutsInTurn []) (state old) (state new) (record { counts_now = λ t f. laws.counts_now old t f lawful; only_now = λ f. laws.only_now old f lawful })
+    let view = g.D.Disk.view in
+    one_call (PutsInTurn []) (view old).state (view new).state (record { counts_now = λ t f. laws.counts_now old t f lawful; only_now = λ f. laws.only_now old f lawful })
     (λ f. refl) time (λ f now. (f, no_new f now, refl))
 
 pub returns-clause-done : goal.returns-clause-done

@@ -5,8 +5,8 @@ use Rattle.td_gate.proofs.laws.reads_in_turn.Goals as goal
 pub returns-clause-unchanged : goal.returns-clause-unchanged
 returns-clause-unchanged g c old mid new lawful one two =
     let laws = g.met.D.Disk in
-    let state = g.D.Disk.state in
-    unchanged_in_turn (state old) (state mid) (state new) (record { counts_now = λ t f. laws.counts_now mid t f lawful; only_now = λ f. laws.only_now mid f lawful }) one two
+    let view = g.D.Disk.view in
+    unchanged_in_turn (view old).state (view mid).state (view new).state (record { counts_now = λ t f. laws.counts_now mid t f lawful; only_now = λ f. laws.only_now mid f lawful }) one two
 
 pub returns-clause-none : goal.returns-clause-none
 returns-clause-none g c d = record {
@@ -22,5 +22,5 @@ returns-clause-none g c d = record {
 }
 
 pub returns-clause-read : goal.returns-clause-read
-returns-clause-read g c = read_in_turn g.D.Disk.capacity g.D.Disk.is_lawful g.D.Disk.state
+returns-clause-read g c = read_in_turn g.D.Disk.view
     (λ d l. record { counts_now = λ t f. g.met.D.Disk.counts_now d t f l; only_now = λ f. g.met.D.Disk.only_now d f l })

@@ -13,11 +13,11 @@ returns-clause-none g c d lawful = record {
 pub returns-clause-call : goal.returns-clause-call
 returns-clause-call g c old new lawful no_new time =
     let laws = g.met.D.Disk in
-    let state = g.D.Disk.state in
-    one_call Unchanged (state old) (state new) (record { counts_now = λ t f. laws.counts_now old t f lawful; only_now = λ f. laws.only_now old f lawful })
+    let view = g.D.Disk.view in
+    one_call Unchanged (view old).state (view new).state (record { counts_now = λ t f. laws.counts_now old t f lawful; only_now = λ f. laws.only_now old f lawful })
     (λ f. refl) time (λ f now. (f, no_new f now, refl))
 
 pub returns-clause-durable : goal.returns-clause-durable
 returns-clause-durable g c old new lawful durable same one f now =
-    let from = one.each f (g.met.D.Disk.counts_now new (g.D.Disk.state old).moment f lawful one.later now) in
+    let from = one.each f (g.met.D.Disk.counts_now new (g.D.Disk.view old).state.moment f lawful one.later now) in
     from.2 ∙ (durable from.0 from.1 ∙ sym same)

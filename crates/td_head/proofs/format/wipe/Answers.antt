@@ -13,7 +13,7 @@ on_ok_from (Err e) f p = tt
 
 pub loop-i-preserved : goal.loop-i-preserved
 loop-i-preserved g c =
-    let state = g.D.Disk.state in
+    let view = g.D.Disk.view in
     let inv = c.loop-i.invariant in
     let put = c.in_ok-write.ensures in
     let i = c.loop-i.i in
@@ -21,10 +21,10 @@ loop-i-preserved g c =
     let block : length (zeros 4096) ≡ 4096 = length-replicate {A = ℕ} 4096 0 in
     let within : 4096 * i + length (zeros 4096) ≤ size = omega (arith, block, inv.whole, c.loop-i-test.true) in
     record {
-      zero = λ l. zeros_more (4096 * i) (4096 * (i + 1)) 4096 (state c.loop-i.device).bytes (state c.write.new.self).bytes (zeros 4096)
+      zero = λ l. zeros_more (4096 * i) (4096 * (i + 1)) 4096 (view c.loop-i.device).state.bytes (view c.write.new.self).state.bytes (zeros 4096)
           (inv.zero l) (put.others (inv.lawful.0 l)) (put.written (inv.lawful.0 l)) block (all_zero 4096) (omega arith);
-      others = λ l. in_turn size (state c.args.device.now).bytes (state c.loop-i.device).bytes (state c.write.new.self).bytes (inv.others l)
-          (wider (4096 * i) (length (zeros 4096)) size (state c.loop-i.device).bytes (state c.write.new.self).bytes within (put.others (inv.lawful.0 l)));
+      others = λ l. in_turn size (view c.args.device.now).state.bytes (view c.loop-i.device).state.bytes (view c.write.new.self).state.bytes (inv.others l)
+          (wider (4096 * i) (length (zeros 4096)) size (view c.loop-i.device).state.bytes (view c.write.new.self).state.bytes within (put.others (inv.lawful.0 l)));
       whole = inv.whole;
       size = put.size ∙ inv.size;
       lawful = (λ l. put.lawful.0 (inv.lawful.0 l), λ l. inv.lawful.1 (put.lawful.1 l));
@@ -33,7 +33,7 @@ loop-i-preserved g c =
 
 pub returns-clause-zero : goal.returns-clause-zero
 returns-clause-zero g c =
-    let state = g.D.Disk.state in
+    let view = g.D.Disk.view in
     let inv = c.loop-i.invariant in
     let put = c.in_ok-write-2.ensures in
     let b = c.bytes-bytes.result in
@@ -43,16 +43,16 @@ returns-clause-zero g c =
     let few : k ≤ 4096 = omega arith in
     let whole : size_of c.args.shape ≤ at + k = omega (arith, c.bytes-bytes.ensures.size) in
     on_ok_from c.sync.result
-    (λ (same : g.D.Disk.is_lawful c.write-2.new.self → (state c.sync.new.self).bytes ≡ (state c.write-2.new.self).bytes). λ (l : g.D.Disk.is_lawful c.args.device.now).
+    (λ (same : (g.D.Disk.view c.write-2.new.self).lawful → (view c.sync.new.self).state.bytes ≡ (view c.write-2.new.self).state.bytes). λ (l : (g.D.Disk.view c.args.device.now).lawful).
     let still = inv.lawful.0 l in
     subst (IsZero (size_of c.args.shape)) (sym (same (put.lawful.0 still)))
-    (zeros_more at (size_of c.args.shape) k (state c.loop-i.device).bytes (state c.write-2.new.self).bytes (take k (zeros 4096))
-    (subst (λ (n : ℕ). IsZero n (state c.loop-i.device).bytes) done (inv.zero l)) (put.others still) (put.written still) (part_size 4096 k few) (part_zero 4096 k few) whole))
+    (zeros_more at (size_of c.args.shape) k (view c.loop-i.device).state.bytes (view c.write-2.new.self).state.bytes (take k (zeros 4096))
+    (subst (λ (n : ℕ). IsZero n (view c.loop-i.device).state.bytes) done (inv.zero l)) (put.others still) (put.written still) (part_size 4096 k few) (part_zero 4096 k few) whole))
     c.sync.ensures.same
 
 pub returns-clause-others : goal.returns-clause-others
 returns-clause-others g c =
-    let state = g.D.Disk.state in
+    let view = g.D.Disk.view in
     let inv = c.loop-i.invariant in
     let put = c.in_ok-write-2.ensures in
     let b = c.bytes-bytes.result in
@@ -63,9 +63,9 @@ returns-clause-others g c =
     let part : length (take k (zeros 4096)) ≡ k = part_size 4096 k few in
     let within : at + length (take k (zeros 4096)) ≤ size = omega (arith, part, c.bytes-bytes.ensures.size) in
     on_ok_from c.sync.result
-    (λ (same : g.D.Disk.is_lawful c.write-2.new.self → (state c.sync.new.self).bytes ≡ (state c.write-2.new.self).bytes). λ (l : g.D.Disk.is_lawful c.args.device.now).
+    (λ (same : (g.D.Disk.view c.write-2.new.self).lawful → (view c.sync.new.self).state.bytes ≡ (view c.write-2.new.self).state.bytes). λ (l : (g.D.Disk.view c.args.device.now).lawful).
     let still = inv.lawful.0 l in
-    subst (SameOutside 0 size (state c.args.device.now).bytes) (sym (same (put.lawful.0 still)))
-    (in_turn size (state c.args.device.now).bytes (state c.loop-i.device).bytes (state c.write-2.new.self).bytes (inv.others l)
-    (wider at (length (take k (zeros 4096))) size (state c.loop-i.device).bytes (state c.write-2.new.self).bytes within (put.others still))))
+    subst (SameOutside 0 size (view c.args.device.now).state.bytes) (sym (same (put.lawful.0 still)))
+    (in_turn size (view c.args.device.now).state.bytes (view c.loop-i.device).state.bytes (view c.write-2.new.self).state.bytes (inv.others l)
+    (wider at (length (take k (zeros 4096))) size (view c.loop-i.device).state.bytes (view c.write-2.new.self).state.bytes within (put.others still))))
     c.sync.ensures.same

@@ -7,10 +7,10 @@ use Rattle.td_head.proofs.format.wipe.Given as goal
 
 abbrev pub invariant-loop-i : goal.invariant-loop-i
 invariant-loop-i g l = record {
-  zero : g.D.Disk.is_lawful l.fn.device → IsZero (4096 * l.i) (g.D.Disk.state l.device).bytes;
-  others : g.D.Disk.is_lawful l.fn.device → SameOutside 0 (size_of l.fn.shape) (g.D.Disk.state l.fn.device).bytes (g.D.Disk.state l.device).bytes;
+  zero : (g.D.Disk.view l.fn.device).lawful → IsZero (4096 * l.i) (g.D.Disk.view l.device).state.bytes;
+  others : (g.D.Disk.view l.fn.device).lawful → SameOutside 0 (size_of l.fn.shape) (g.D.Disk.view l.fn.device).state.bytes (g.D.Disk.view l.device).state.bytes;
   whole : l.bytes ≡ size_of l.fn.shape;
-  size : g.D.Disk.capacity l.device ≡ g.D.Disk.capacity l.fn.device;
-  lawful : g.D.Disk.is_lawful l.fn.device ↔ g.D.Disk.is_lawful l.device;
-  count : g.D.Disk.failures l.device ≡ g.D.Disk.failures l.fn.device;
+  size : (g.D.Disk.view l.device).capacity ≡ (g.D.Disk.view l.fn.device).capacity;
+  lawful : (g.D.Disk.view l.fn.device).lawful ↔ (g.D.Disk.view l.device).lawful;
+  count : (g.D.Disk.view l.device).failures ≡ (g.D.Disk.view l.fn.device).failures;
 }

@@ -12,20 +12,20 @@ not_some (Some v) not = absurd (not v refl)
 
 pub returns-in_default-clause-told : goal.returns-in_default-clause-told
 returns-in_default-clause-told g c lawful =
-    let image = (g.D.Disk.state c.args.device.now).bytes in
+    let image = (g.D.Disk.view c.args.device.now).state.bytes in
     ap (λ (r : Region). candidate c.args.side (opened r image)) (sym c.head_region-head.ensures)
     ∙ ap (candidate c.args.side) (sym (c.in_ok-payload.ensures.found lawful) ∙ not_some c.in_ok-payload.field-0 c.in_default.not-Some)
 
 pub returns-then-starts_with-clause-told : goal.returns-then-starts_with-clause-told
 returns-then-starts_with-clause-told g c lawful =
-    let image = (g.D.Disk.state c.args.device.now).bytes in
+    let image = (g.D.Disk.view c.args.device.now).state.bytes in
     let counts : candidate c.args.side (Some c.in-Some.payload.items) ≡ Some (fields_in c.args.side c.in-Some.payload.items) = search rules in
     ap (λ (r : Region). candidate c.args.side (opened r image)) (sym c.head_region-head.ensures)
     ∙ ap (candidate c.args.side) (sym (c.in_ok-payload.ensures.found lawful) ∙ ap payload_of c.in-Some.is) ∙ counts
 
 pub returns-else-starts_with-clause-told : goal.returns-else-starts_with-clause-told
 returns-else-starts_with-clause-told g c lawful =
-    let image = (g.D.Disk.state c.args.device.now).bytes in
+    let image = (g.D.Disk.view c.args.device.now).state.bytes in
     let not : candidate c.args.side (Some c.in-Some.payload.items) ≡ None = search rules in
     ap (λ (r : Region). candidate c.args.side (opened r image)) (sym c.head_region-head.ensures)
     ∙ ap (candidate c.args.side) (sym (c.in_ok-payload.ensures.found lawful) ∙ ap payload_of c.in-Some.is) ∙ not

@@ -23,73 +23,73 @@ is_none (Some v) not = absurd (not v refl)
 
 pub returns-then-size-lt-HEADS_LEN-clause-refused : goal.returns-then-size-lt-HEADS_LEN-clause-refused
 returns-then-size-lt-HEADS_LEN-clause-refused g c =
-    let state = g.D.Disk.state in
+    let view = g.D.Disk.view in
     let laws = g.met.D.Disk in
     let old = c.args.device.now in
-    let image = (state old).bytes in
+    let image = (view old).state.bytes in
     let plan = c.args.plan.now in
     let size = c.size-size.result in
-    let whole : g.D.Disk.is_lawful old → length image ≡ g.D.Disk.capacity old = λ l. laws.image_size old image l (laws.reads_image old l) in
+    let whole : (g.D.Disk.view old).lawful → length image ≡ (g.D.Disk.view old).capacity = λ l. laws.image_size old image l (laws.reads_image old l) in
     let d = decided (text_in (head_of image)) c.one_answer.ensures.either c.one_answer.ensures.not_both c.one_answer.ensures.one_plan in
-    inr (inr (λ l. small_disk plan image size (g.D.Disk.capacity old) (sym c.size-size.ensures) (whole l) d c.if-size-lt-HEADS_LEN.true))
+    inr (inr (λ l. small_disk plan image size (g.D.Disk.view old).capacity (sym c.size-size.ensures) (whole l) d c.if-size-lt-HEADS_LEN.true))
 
 pub returns-in_default-clause-refused : goal.returns-in_default-clause-refused
 returns-in_default-clause-refused g c =
-    let state = g.D.Disk.state in
+    let view = g.D.Disk.view in
     let laws = g.met.D.Disk in
     let old = c.args.device.now in
-    let image = (state old).bytes in
+    let image = (view old).state.bytes in
     let plan = c.args.plan.now in
     let size = c.size-size.result in
-    let whole : g.D.Disk.is_lawful old → length image ≡ g.D.Disk.capacity old = λ l. laws.image_size old image l (laws.reads_image old l) in
+    let whole : (g.D.Disk.view old).lawful → length image ≡ (g.D.Disk.view old).capacity = λ l. laws.image_size old image l (laws.reads_image old l) in
     let d = decided (text_in (head_of image)) c.one_answer.ensures.either c.one_answer.ensures.not_both c.one_answer.ensures.one_plan in
-    let held : g.D.Disk.is_lawful old → head_of image ≡ chosen_of c.later.result = λ l.
+    let held : (g.D.Disk.view old).lawful → head_of image ≡ chosen_of c.later.result = λ l.
     ap (λ (f : Option Fields). greater f (candidate 1 (opened (head 1) image))) (c.in_ok-first.ensures.told l)
     ∙ ap (λ (b : List ℕ). greater (fields_of 0 c.in_ok-first.first) (candidate 1 (opened (head 1) b))) (sym (c.in_ok-first.ensures.read.same l))
     ∙ ap (greater (fields_of 0 c.in_ok-first.first)) (c.in_ok-second.ensures.told (c.in_ok-first.ensures.read.lawful.0 l)) ∙ sym c.later.ensures.greater in
     let large : 8258 ≤ size = omega (arith, c.if-size-lt-HEADS_LEN.false) in
-    inr (inr (λ l. no_head plan image size (g.D.Disk.capacity old) (sym c.size-size.ensures) (whole l) d large (held l ∙ is_none c.later.result c.in_default.not-Some)))
+    inr (inr (λ l. no_head plan image size (g.D.Disk.view old).capacity (sym c.size-size.ensures) (whole l) d large (held l ∙ is_none c.later.result c.in_default.not-Some)))
 
 pub returns-clause-told : goal.returns-clause-told
 returns-clause-told g c =
-    let state = g.D.Disk.state in
+    let view = g.D.Disk.view in
     let laws = g.met.D.Disk in
     let old = c.args.device.now in
-    let image = (state old).bytes in
+    let image = (view old).state.bytes in
     let plan = c.args.plan.now in
     let size = c.size-size.result in
-    let whole : g.D.Disk.is_lawful old → length image ≡ g.D.Disk.capacity old = λ l. laws.image_size old image l (laws.reads_image old l) in
+    let whole : (g.D.Disk.view old).lawful → length image ≡ (g.D.Disk.view old).capacity = λ l. laws.image_size old image l (laws.reads_image old l) in
     let d = decided (text_in (head_of image)) c.one_answer.ensures.either c.one_answer.ensures.not_both c.one_answer.ensures.one_plan in
-    let held : g.D.Disk.is_lawful old → head_of image ≡ chosen_of c.later.result = λ l.
+    let held : (g.D.Disk.view old).lawful → head_of image ≡ chosen_of c.later.result = λ l.
     ap (λ (f : Option Fields). greater f (candidate 1 (opened (head 1) image))) (c.in_ok-first.ensures.told l)
     ∙ ap (λ (b : List ℕ). greater (fields_of 0 c.in_ok-first.first) (candidate 1 (opened (head 1) b))) (sym (c.in_ok-first.ensures.read.same l))
     ∙ ap (greater (fields_of 0 c.in_ok-first.first)) (c.in_ok-second.ensures.told (c.in_ok-first.ensures.read.lawful.0 l)) ∙ sym c.later.ensures.greater in
     let large : 8258 ≤ size = omega (arith, c.if-size-lt-HEADS_LEN.false) in
     let fields : Fields = fields_in c.in-Some.side c.in-Some.payload.items in
-    let held_is : g.D.Disk.is_lawful old → head_of image ≡ Some fields = λ l. held l ∙ ap chosen_of c.in-Some.is in
+    let held_is : (g.D.Disk.view old).lawful → head_of image ≡ Some fields = λ l. held l ∙ ap chosen_of c.in-Some.is in
     let still = ap (fields_in c.in-Some.side) c.deref.ensures.value in
-    if_ok_map c.told.result (λ s told. λ l. of_fields plan image size (g.D.Disk.capacity old) (sym c.size-size.ensures) (whole l) fields (Headed s) large (held_is l)
+    if_ok_map c.told.result (λ s told. λ l. of_fields plan image size (g.D.Disk.view old).capacity (sym c.size-size.ensures) (whole l) fields (Headed s) large (held_is l)
     (subst (λ (f : Fields). IsFieldsTold plan size f (Headed s)) still told)) c.told.ensures.told
 
 pub returns-clause-refused : goal.returns-clause-refused
 returns-clause-refused g c =
-    let state = g.D.Disk.state in
+    let view = g.D.Disk.view in
     let laws = g.met.D.Disk in
     let old = c.args.device.now in
-    let image = (state old).bytes in
+    let image = (view old).state.bytes in
     let plan = c.args.plan.now in
     let size = c.size-size.result in
-    let whole : g.D.Disk.is_lawful old → length image ≡ g.D.Disk.capacity old = λ l. laws.image_size old image l (laws.reads_image old l) in
+    let whole : (g.D.Disk.view old).lawful → length image ≡ (g.D.Disk.view old).capacity = λ l. laws.image_size old image l (laws.reads_image old l) in
     let d = decided (text_in (head_of image)) c.one_answer.ensures.either c.one_answer.ensures.not_both c.one_answer.ensures.one_plan in
-    let held : g.D.Disk.is_lawful old → head_of image ≡ chosen_of c.later.result = λ l.
+    let held : (g.D.Disk.view old).lawful → head_of image ≡ chosen_of c.later.result = λ l.
     ap (λ (f : Option Fields). greater f (candidate 1 (opened (head 1) image))) (c.in_ok-first.ensures.told l)
     ∙ ap (λ (b : List ℕ). greater (fields_of 0 c.in_ok-first.first) (candidate 1 (opened (head 1) b))) (sym (c.in_ok-first.ensures.read.same l))
     ∙ ap (greater (fields_of 0 c.in_ok-first.first)) (c.in_ok-second.ensures.told (c.in_ok-first.ensures.read.lawful.0 l)) ∙ sym c.later.ensures.greater in
     let large : 8258 ≤ size = omega (arith, c.if-size-lt-HEADS_LEN.false) in
     let fields : Fields = fields_in c.in-Some.side c.in-Some.payload.items in
-    let held_is : g.D.Disk.is_lawful old → head_of image ≡ Some fields = λ l. held l ∙ ap chosen_of c.in-Some.is in
+    let held_is : (g.D.Disk.view old).lawful → head_of image ≡ Some fields = λ l. held l ∙ ap chosen_of c.in-Some.is in
     let still = ap (fields_in c.in-Some.side) c.deref.ensures.value in
-    if_err_map c.told.result (λ e one. ⊎_elim (λ memory. inr (inl memory)) (λ told. inr (inr (λ l. of_fields plan image size (g.D.Disk.capacity old) (sym c.size-size.ensures) (whole l) fields (Refused e) large (held_is l)
+    if_err_map c.told.result (λ e one. ⊎_elim (λ memory. inr (inl memory)) (λ told. inr (inr (λ l. of_fields plan image size (g.D.Disk.view old).capacity (sym c.size-size.ensures) (whole l) fields (Refused e) large (held_is l)
     (subst (λ (f : Fields). IsFieldsTold plan size f (Refused e)) still told)))) one) c.told.ensures.refused
 
 pub returns-in_default-clause-read : goal.returns-in_default-clause-read

@@ -17,27 +17,27 @@ put-requires-clause-len g c =
 
 pub returns-in_err-put-clause-crash_safe : goal.returns-in_err-put-clause-crash_safe
 returns-in_err-put-clause-crash_safe g c lawful settled =
-    let state = g.D.Disk.state in
+    let view = g.D.Disk.view in
     let region = c.head_region.ensures in
     let payload = c.deref-2.ensures.value ∙ c.in_ok-payload.ensures.ok ∙ ap (head_bytes 2 c.args.generation c.args.shape) (c.deref.ensures ∙ c.in-Ok.ensures.ok) in
-    subst (λ (r : Region). CrashSafe (Puts r (head_bytes 2 c.args.generation c.args.shape (text_of c.args.plan.now))) (state c.args.device.now) (state c.put.new.device)) region
-    (subst (λ (p : List ℕ). CrashSafe (Puts c.head_region.result p) (state c.args.device.now) (state c.put.new.device)) payload
-    (c.in_err-put.ensures.crash_safe lawful (subst (λ (r : Region). IsSettled r (state c.args.device.now)) (sym region) settled)))
+    subst (λ (r : Region). CrashSafe (Puts r (head_bytes 2 c.args.generation c.args.shape (text_of c.args.plan.now))) (view c.args.device.now).state (view c.put.new.device).state) region
+    (subst (λ (p : List ℕ). CrashSafe (Puts c.head_region.result p) (view c.args.device.now).state (view c.put.new.device).state) payload
+    (c.in_err-put.ensures.crash_safe lawful (subst (λ (r : Region). IsSettled r (view c.args.device.now).state) (sym region) settled)))
 
 pub returns-clause-crash_safe : goal.returns-clause-crash_safe
 returns-clause-crash_safe g c lawful settled =
-    let state = g.D.Disk.state in
+    let view = g.D.Disk.view in
     let region = c.head_region.ensures in
     let payload = c.deref-2.ensures.value ∙ c.in_ok-payload.ensures.ok ∙ ap (head_bytes 2 c.args.generation c.args.shape) (c.deref.ensures ∙ c.in-Ok.ensures.ok) in
-    subst (λ (r : Region). CrashSafe (Puts r (head_bytes 2 c.args.generation c.args.shape (text_of c.args.plan.now))) (state c.args.device.now) (state c.put.new.device)) region
-    (subst (λ (p : List ℕ). CrashSafe (Puts c.head_region.result p) (state c.args.device.now) (state c.put.new.device)) payload
-    (c.in_ok-put.ensures.crash_safe lawful (subst (λ (r : Region). IsSettled r (state c.args.device.now)) (sym region) settled)))
+    subst (λ (r : Region). CrashSafe (Puts r (head_bytes 2 c.args.generation c.args.shape (text_of c.args.plan.now))) (view c.args.device.now).state (view c.put.new.device).state) region
+    (subst (λ (p : List ℕ). CrashSafe (Puts c.head_region.result p) (view c.args.device.now).state (view c.put.new.device).state) payload
+    (c.in_ok-put.ensures.crash_safe lawful (subst (λ (r : Region). IsSettled r (view c.args.device.now).state) (sym region) settled)))
 
 pub returns-clause-open : goal.returns-clause-open
 returns-clause-open g c lawful settled =
-    let state = g.D.Disk.state in
+    let view = g.D.Disk.view in
     let region = c.head_region.ensures in
     let payload = c.deref-2.ensures.value ∙ c.in_ok-payload.ensures.ok ∙ ap (head_bytes 2 c.args.generation c.args.shape) (c.deref.ensures ∙ c.in-Ok.ensures.ok) in
-    subst (λ (r : Region). IsOpen r (head_bytes 2 c.args.generation c.args.shape (text_of c.args.plan.now)) (state c.put.new.device)) region
-    (subst (λ (p : List ℕ). IsOpen c.head_region.result p (state c.put.new.device)) payload
-    (c.in_ok-put.ensures.open lawful (subst (λ (r : Region). IsSettled r (state c.args.device.now)) (sym region) settled)))
+    subst (λ (r : Region). IsOpen r (head_bytes 2 c.args.generation c.args.shape (text_of c.args.plan.now)) (view c.put.new.device).state) region
+    (subst (λ (p : List ℕ). IsOpen c.head_region.result p (view c.put.new.device).state) payload
+    (c.in_ok-put.ensures.open lawful (subst (λ (r : Region). IsSettled r (view c.args.device.now).state) (sym region) settled)))

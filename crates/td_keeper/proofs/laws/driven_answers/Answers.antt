@@ -3,4 +3,4 @@ use Rattle.td_keeper.proofs.laws.driven_answers.Goals as goal
 
 pub returns : goal.returns
 returns g c commands replies old new history kept driven is =
-    all_of_history g.D.Disk.is_lawful g.D.Disk.state g.D.Disk.failures g.L.Law.answers c.run_joins.ensures.states c.driven_acknowledges.ensures commands replies old new history kept driven is
+    all_of_history g.D.Disk.view g.L.Law.answers c.run_joins.ensures.states c.driven_acknowledges.ensures commands replies old new history kept driven is

@@ -2,4 +2,4 @@ use Rattle.td_keeper.proofs.Driving.{rests}
 use Rattle.td_keeper.proofs.laws.others_rest.Goals as goal
 
 pub returns : goal.returns
-returns g c command reply old new quiet obeys = rests g.D.Disk.is_lawful g.D.Disk.state g.D.Disk.failures g.L.Law.answers command reply old new quiet obeys
+returns g c command reply old new quiet obeys = rests g.D.Disk.view g.L.Law.answers command reply old new quiet obeys

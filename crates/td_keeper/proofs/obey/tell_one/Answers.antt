@@ -5,7 +5,7 @@ use Rattle.td_journal.specs.declared.submitted.Submitted.{Submitted}
 use Rattle.td_keeper.specs.declared.command.Command.{Command}
 use Rattle.td_keeper.specs.declared.command.Reply.{Reply}
 use Rattle.td_keeper.specs.Keeping.{Keeping, IsKeeping}
-use Rattle.td_standing.specs.Advanced.{HeldWhere}
+use Rattle.td_store.specs.standing.Advanced.{HeldWhere}
 use Rattle.td_keeper.specs.Driven.{submitted_in, is_failed, Advances, Driven}
 use Rattle.td_keeper.proofs.Driving.{driven_advances}
 use Rattle.td_keeper.proofs.Failing.{driven_counted, driven_failed, driven_whole}
@@ -19,9 +19,7 @@ or_false false = refl
 
 pub returns-clause-told : goal.returns-clause-told
 returns-clause-told g c =
-    let is_lawful = g.D.Disk.is_lawful in
-    let state = g.D.Disk.state in
-    let failures = g.D.Disk.failures in
+    let view = g.D.Disk.view in
     let answers = g.L.Law.answers in
     let old : Keeping g.row.D.Denot = g.E.Obey.keeping c.args.engine.now in
     let new : Keeping g.row.D.Denot = g.E.Obey.keeping c.obey-reply.new.self in
@@ -29,25 +27,25 @@ returns-clause-told g c =
     let reply : Reply = c.obey-reply.result in
     let kept : IsKeeping old answers = subst (λ (k : Keeping g.row.D.Denot). IsKeeping k answers) c.keeper.ensures c.each_is_kept.ensures in
     let kept_then : IsKeeping new answers = subst (λ (k : Keeping g.row.D.Denot). IsKeeping k answers) c.keeper-3.ensures c.each_is_kept-2.ensures in
-    let holds : is_lawful old.device → HeldWhere old.broken answers old.plan old.head old.side old.standing (state old.device) =
-    subst (λ (k : Keeping g.row.D.Denot). is_lawful k.device → HeldWhere k.broken answers k.plan k.head k.side k.standing (state k.device)) c.keeper-2.ensures c.each_disk_holds.ensures in
-    let driven : Driven is_lawful state failures answers (command ∷ []) (reply ∷ []) old new = (new, kept_then, c.obey-reply.ensures.obeyed, refl) in
+    let holds : (view old.device).lawful → HeldWhere old.broken answers old.plan old.head old.side old.standing (view old.device).state =
+    subst (λ (k : Keeping g.row.D.Denot). (view k.device).lawful → HeldWhere k.broken answers k.plan k.head k.side k.standing (view k.device).state) c.keeper-2.ensures c.each_disk_holds.ensures in
+    let driven : Driven view answers (command ∷ []) (reply ∷ []) old new = (new, kept_then, c.obey-reply.ensures.obeyed, refl) in
     let none : submitted_in command reply ++ [] ≡ submitted_in command reply = append-nil (submitted_in command reply) in
     let join = c.advances_join.ensures in
-    let further = λ (lawful : is_lawful old.device) (whole : old.broken ≡ false).
-    subst (λ (x : List Submitted). Advances is_lawful state failures answers old new x) none
-    (driven_advances is_lawful state failures answers join.submitted join.cut join.later join.last (command ∷ []) (reply ∷ []) old new kept driven lawful whole) in
+    let further = λ (lawful : (view old.device).lawful) (whole : old.broken ≡ false).
+    subst (λ (x : List Submitted). Advances view answers old new x) none
+    (driven_advances view answers join.submitted join.cut join.later join.last (command ∷ []) (reply ∷ []) old new kept driven lawful whole) in
     record {
       kept = kept;
       obeyed = c.obey-reply.ensures.obeyed;
       driven = driven;
-      counted = driven_counted is_lawful state failures answers (command ∷ []) (reply ∷ []) old new driven;
-      fails = λ is. driven_failed is_lawful state failures answers (command ∷ []) (reply ∷ []) old new driven (or_false (is_failed reply) ∙ is);
-      whole = λ is. driven_whole is_lawful state failures answers (command ∷ []) (reply ∷ []) old new driven (or_false (is_failed reply) ∙ is);
+      counted = driven_counted view answers (command ∷ []) (reply ∷ []) old new driven;
+      fails = λ is. driven_failed view answers (command ∷ []) (reply ∷ []) old new driven (or_false (is_failed reply) ∙ is);
+      whole = λ is. driven_whole view answers (command ∷ []) (reply ∷ []) old new driven (or_false (is_failed reply) ∙ is);
       further = further;
       images = λ lawful whole.
-          from_start answers old.plan c.told_in_parts.ensures.together old.head old.side old.standing (submitted_in command reply) (state old.device) (state new.device)
+          from_start answers old.plan c.told_in_parts.ensures.together old.head old.side old.standing (submitted_in command reply) (view old.device).state (view new.device).state
           (λ d. g.met.D.Disk.only_now old.device d lawful) (c.standings_advance.ensures.not_yet (tree_of old.plan) old.standing (submitted_in command reply))
-          (keeps_of old.broken answers old.plan old.head old.side old.standing (state old.device) whole (holds lawful))
+          (keeps_of old.broken answers old.plan old.head old.side old.standing (view old.device).state whole (holds lawful))
           ((further lawful whole).since whole);
     }

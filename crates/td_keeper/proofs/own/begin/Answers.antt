@@ -1,6 +1,6 @@
 use Rattle.std.proofs.Common.{◌≡◌, ◌+◌, ◌<◌, [], length, refl, sym, ap, ◌∙◌, subst, true≢false, arith}
 use Rattle.std.proofs.lemmas.List.{length-map, length-drop, length-append, get_or_read}
-use Rattle.td_standing.specs.Standing.{batches_of}
+use Rattle.td_store.specs.standing.Standing.{batches_of}
 use Rattle.td_keeper.proofs.Beginning.{Found, none_found, found_more, all_found, stands, there}
 use Rattle.td_keeper.proofs.own.begin.Goals as goal
 

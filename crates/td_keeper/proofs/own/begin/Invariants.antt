@@ -1,4 +1,4 @@
-use Rattle.td_standing.specs.Standing.{batches_of}
+use Rattle.td_store.specs.standing.Standing.{batches_of}
 use Rattle.td_keeper.proofs.Beginning.{Found}
 use Rattle.td_keeper.proofs.own.begin.Given as goal
 

@@ -1,6 +1,6 @@
 use Rattle.std.proofs.Common.{◌≡◌, drop}
-use Rattle.td_group.specs.Groups.{AreBatches}
-use Rattle.td_standing.specs.Told.{inputs_of}
+use Rattle.td_store.specs.group.Groups.{AreBatches}
+use Rattle.td_store.specs.standing.Told.{inputs_of}
 use Rattle.td_keeper.specs.Refused.{all_accepted}
 use Rattle.td_keeper.proofs.submit_all.all_accepted.Given as goal
 

@@ -1,5 +1,5 @@
 use Rattle.std.proofs.Common.{◌≡◌, drop}
-use Rattle.td_group.specs.Groups.{AllFew}
+use Rattle.td_store.specs.group.Groups.{AllFew}
 use Rattle.td_keeper.specs.Refused.{all_few}
 use Rattle.td_keeper.proofs.submit_all.all_few.Given as goal
 

@@ -1,5 +1,5 @@
 use Rattle.std.proofs.Common.{◌≡◌, drop, Some}
-use Rattle.td_group.specs.Groups.{may_follow}
+use Rattle.td_store.specs.group.Groups.{may_follow}
 use Rattle.td_keeper.proofs.submit_all.may_follow.Given as goal
 
 -- what is left decides

@@ -33,7 +33,7 @@ loop-at-preserved g c =
       count = put.failures.stays ∙ inv.count;
       reading = more_read disk.read_gives (take at old) ys _ at c.args.disk.now c.loop-at.disk c.read_piece.new.disk (length-take-le at old fits) now inv.reading put.gives;
       rest = rest at n k old ys first fits long is inv.rest;
-      lawful = λ l. lawful at n k old ys first fits long is (disk.state c.args.disk.now).bytes (length (take k (drop at old))) piece (inv.lawful l)
+      lawful = λ l. lawful at n k old ys first fits long is (disk.view c.args.disk.now).state.bytes (length (take k (drop at old))) piece (inv.lawful l)
           (put.lawful (inv.read.lawful.0 l) ∙ ap (λ (bs : List ℕ). take (length (take k (drop at old))) (drop at bs)) (inv.read.same l));
       same = same_more _ _ _ step inv.same put.same (λ a p. same at n k old ys first fits long is a inv.rest p);
       other = other_more _ _ _ step (λ e. other_front at n k old ys first fits long is (inv.other e)) (λ e. other_piece at n k old ys first fits long is inv.rest (put.other e));

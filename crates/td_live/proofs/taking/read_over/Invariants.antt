@@ -9,11 +9,11 @@ invariant-loop-at g l = record {
   within : l.at ≤ length l.bytes;
   size : length l.bytes ≡ length l.fn.bytes;
   some : length l.piece ≡ length l.fn.piece;
-  read : IsRead g.D.Disk.capacity g.D.Disk.is_lawful g.D.Disk.state l.fn.disk l.disk;
-  count : g.D.Disk.failures l.disk ≡ g.D.Disk.failures l.fn.disk;
+  read : IsRead g.D.Disk.view l.fn.disk l.disk;
+  count : (g.D.Disk.view l.disk).failures ≡ (g.D.Disk.view l.fn.disk).failures;
   reading : IsReading g.D.Disk.read_gives (take l.at l.bytes) l.fn.disk l.disk;
   rest : drop l.at l.bytes ≡ drop l.at l.fn.bytes;
-  lawful : g.D.Disk.is_lawful l.fn.disk → take l.at l.bytes ≡ take l.at (g.D.Disk.state l.fn.disk).bytes;
+  lawful : (g.D.Disk.view l.fn.disk).lawful → take l.at l.bytes ≡ take l.at (g.D.Disk.view l.fn.disk).state.bytes;
   same : l.is_same ≡ true → take l.at l.bytes ≡ take l.at l.fn.bytes;
   other : l.is_same ≡ false → take l.at l.bytes ≡ take l.at l.fn.bytes → ⊥;
 }

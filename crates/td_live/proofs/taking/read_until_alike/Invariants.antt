@@ -7,11 +7,11 @@ use Rattle.td_live.proofs.taking.read_until_alike.Given as goal
 abbrev pub invariant-loop : goal.invariant-loop
 invariant-loop g l = record {
   few : l.alike < 3;
-  size : length l.bytes ≡ g.D.Disk.capacity l.disk;
+  size : length l.bytes ≡ (g.D.Disk.view l.disk).capacity;
   some : length l.piece ≡ length l.fn.piece;
-  read : IsRead g.D.Disk.capacity g.D.Disk.is_lawful g.D.Disk.state l.fn.disk l.disk;
-  count : g.D.Disk.failures l.disk ≡ g.D.Disk.failures l.fn.disk;
+  read : IsRead g.D.Disk.view l.fn.disk l.disk;
+  count : (g.D.Disk.view l.disk).failures ≡ (g.D.Disk.view l.fn.disk).failures;
   readings : LastReadings g.D.Disk.read_gives l.alike l.bytes l.disk;
-  lawful : g.D.Disk.is_lawful l.fn.disk → 0 < l.alike → l.bytes ≡ (g.D.Disk.state l.disk).bytes;
-  each : g.D.Disk.is_lawful l.fn.disk → l.alike ≡ l.counter;
+  lawful : (g.D.Disk.view l.fn.disk).lawful → 0 < l.alike → l.bytes ≡ (g.D.Disk.view l.disk).state.bytes;
+  each : (g.D.Disk.view l.fn.disk).lawful → l.alike ≡ l.counter;
 }

@@ -1,5 +1,5 @@
 use Rattle.td_plan.specs.Text.{text_lines}
-use Rattle.td_standing.specs.Told.{folds_of}
+use Rattle.td_store.specs.standing.Told.{folds_of}
 use Rattle.td_states.proofs.Once.{spelled_once}
 use Rattle.td_states.proofs.OneAnswer.{text_no_fault}
 use Rattle.td_states.proofs.laws.one_answer.Goals as goal

@@ -1,4 +1,4 @@
-use Rattle.td_standing.specs.Told.{folds_of}
+use Rattle.td_store.specs.standing.Told.{folds_of}
 use Rattle.td_states.proofs.Spelling.{spells_itself}
 use Rattle.td_states.proofs.laws.states_are_spelled.Goals as goal
 

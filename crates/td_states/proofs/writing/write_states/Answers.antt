@@ -3,11 +3,11 @@ use Rattle.std.specs.Io.KnownBytes.{Appends}
 use Rattle.std.proofs.lemmas.List.{length-map}
 use Rattle.td_disk.specs.Disk.{IsDurable, Rises}
 use Rattle.td_journal.specs.Counts.{counts_of}
-use Rattle.td_standing.specs.declared.error.KeeperError.{KeeperError}
-use Rattle.td_standing.specs.Read.{Refused}
-use Rattle.td_standing.specs.Standing.{standing_from}
-use Rattle.td_standing.specs.Told.{Told}
-use Rattle.td_standing.specs.Tells.{checkpoint_of}
+use Rattle.td_store.specs.declared.standing.error.KeeperError.{KeeperError}
+use Rattle.td_store.specs.standing.Read.{Refused}
+use Rattle.td_store.specs.standing.Standing.{standing_from}
+use Rattle.td_store.specs.standing.Told.{Told}
+use Rattle.td_store.specs.standing.Tells.{checkpoint_of}
 use Rattle.td_console.specs.declared.faults.Fault.{Fault}
 use Rattle.td_console.specs.Refusals.{keeper_fault}
 use Rattle.td_states.specs.Lines.{checkpoint_text}
@@ -18,15 +18,15 @@ use Rattle.td_states.proofs.writing.write_states.Goals as goal
 pub returns-in_err-counted-clause-refused : goal.returns-in_err-counted-clause-refused
 returns-in_err-counted-clause-refused g c =
     let new = c.count_device.new.device in
-    let state = g.D.Disk.state in
+    let view = g.D.Disk.view in
     let e = c.in_err-counted.field-0.0 in
     let plan = c.args.plan.now in
-    let lawful = g.D.Disk.is_lawful c.args.disk.now in
-    let before = g.D.Disk.failures c.args.disk.now in
-    let after = g.D.Disk.failures new in
-    let tells = λ (d : KeeperError). lawful → IsDurable (state new) × Told plan (state new).bytes (Refused d) in
-    if_err c.from_residual.result (λ (f : Fault). f ≡ keeper_fault e) (IsNotWritten plan lawful (state new) before after) c.from_residual.ensures.1
-    (λ f is. inr (refused (Rises before after) tells e f is (λ device. c.in_err-counted.ensures.device (λ i. Err (device i))) c.in_err-counted.ensures.refused))
+    let lawful = (g.D.Disk.view c.args.disk.now).lawful in
+    let before = (g.D.Disk.view c.args.disk.now).failures in
+    let after = (g.D.Disk.view new).failures in
+    let tells = λ (d : KeeperError). lawful → IsDurable (view new).state × Told plan (view new).state.bytes (Refused d) in
+    if_err c.from_residual.result (λ (f : Fault). f ≡ keeper_fault e) (IsNotWritten plan lawful (view new).state before after) c.from_residual.ensures.1
+    (λ f is. inr (refused (Rises before after) tells e f is (λ device. c.in_err-counted.ensures.device.counts.rises (λ i. Err (device i))) c.in_err-counted.ensures.refused))
 
 pub returns-clause-written : goal.returns-clause-written
 returns-clause-written g c =

@@ -1,8 +1,8 @@
 use Rattle.std.proofs.Common.{ℕ, List, inl, refl, sym, ◌∙◌, subst, arith}
 use Rattle.std.specs.Prelude.{Result, Ok}
-use Rattle.td_standing.specs.declared.error.KeeperError.{KeeperError}
-use Rattle.td_standing.specs.Standing.{Standing}
-use Rattle.td_standing.specs.Told.{Told}
+use Rattle.td_store.specs.declared.standing.error.KeeperError.{KeeperError}
+use Rattle.td_store.specs.standing.Standing.{Standing}
+use Rattle.td_store.specs.standing.Told.{Told}
 use Rattle.td_theorem.proofs.laws.lives_go_on.Goals as goal
 
 pub returns-clause-same : goal.returns-clause-same

@@ -4,7 +4,7 @@ use Rattle.td_theorem.proofs.laws.the_theorem.Goals as goal
 
 pub returns : goal.returns
 returns g c =
-    let keepers : OfKeepers g.D.Disk.is_lawful g.D.Disk.state g.D.Disk.failures g.L.Law.answers = record {
+    let keepers : OfKeepers g.D.Disk.view g.L.Law.answers = record {
       rest = c.others_rest.ensures;
       acknowledges = c.driven_acknowledges.ensures;
       advances = c.driven_advances.ensures;
@@ -21,7 +21,7 @@ returns g c =
       joined = c.numbers.ensures.joined;
       in_order = c.states_are_in_order.ensures.read;
     } in
-    let disks : OfDisks g.D.Disk.is_lawful g.D.Disk.state = record {
+    let disks : OfDisks g.D.Disk.view = record {
       reads_image = g.met.D.Disk.reads_image;
       counts_now = g.met.D.Disk.counts_now;
       only_now = g.met.D.Disk.only_now;
@@ -34,4 +34,4 @@ returns g c =
       confluence = c.confluence.ensures;
       never_stuck = c.never_stuck.ensures;
     } in
-    the_theorem g.D.Disk.is_lawful g.D.Disk.state g.D.Disk.failures g.L.Law.answers keepers standings disks plays
+    the_theorem g.D.Disk.view g.L.Law.answers keepers standings disks plays

@@ -8,9 +8,8 @@ use Rattle.td_written.proofs.durable.stream_by.Goals as goal
 pub returns : goal.returns
 returns g c =
     let fed = c.stream.ensures in
-    let how = c.args.options in
     subst (λ (s : Working _). StreamsBy (stored_beside g.L.Law.answers g.C.Closures.has_map g.C.Closures.has_group g.C.Closures.has_fold s.calls.below g.F.Formulas.closures)
-    g.D.Disk.capacity g.D.Disk.is_lawful g.D.Disk.state g.D.Disk.failures g.I.Source.remaining g.W.Sink.contents g.W.Voice.marks g.H.New.Disk.is_lawful g.H.New.Disk.state
-    g.H.Host.copies g.H.Host.seen s.plan how.placing how.refuse how.hold how.questions how.copies (s.workers == 1)
+    g.D.Disk.view g.I.Source.remaining g.W.Sink.contents g.W.Voice.marks g.H.New.Disk.view
+    g.H.Host.copies g.H.Host.seen s.plan c.args.options (s.workers == 1)
     c.args.disk c.stream.result.0 c.args.reader c.args.writer.now c.stream.new.writer c.args.host.now c.stream.new.host c.stream.result.1) c.new.ensures
     (record { disk_is_kept = fed.disk; lack = fed.lack; fits = fed.fits; fed = fed.fed; seen = fed.seen })

@@ -21,7 +21,7 @@ pub returns-in-Say-clause-fed : goal.returns-in-Say-clause-fed
 returns-in-Say-clause-fed g c =
     let k = g.E.Obey.keeping c.args.engine.now in
     let kept = g.H.Host.copies c.args.host.now in
-    subst (λ (a : Asked). FeedsCopying g.D.Disk.is_lawful g.D.Disk.state g.D.Disk.failures g.L.Law.answers g.W.Voice.marks g.H.New.Disk.is_lawful g.H.New.Disk.state c.write_note.result (g.W.Sink.contents c.args.writer.now) (g.W.Sink.contents c.write_note.new.writer) kept kept k k (new_to k (asked_for a)) (notes_for a))
+    subst (λ (a : Asked). FeedsCopying g.D.Disk.view g.L.Law.answers g.W.Voice.marks g.H.New.Disk.view c.write_note.result (g.W.Sink.contents c.args.writer.now) (g.W.Sink.contents c.write_note.new.writer) kept kept k k (new_to k (asked_for a)) (notes_for a))
     (sym (c.in-One.is ∙ ap (λ (o : Order). One o) c.in-Say.is))
     (fed_uncopied (to_say c.in-Say.note ∷ []) refl refl (fed_note c.write_note.result c.in-Say.note c.requires.whole c.write_note.ensures.said c.write_note.ensures.unsaid (λ same. ap g.W.Sink.contents same)))
 
@@ -33,7 +33,7 @@ returns-in-Seen-clause-fed g c =
     let k = g.E.Obey.keeping c.args.engine.now in
     let w = g.W.Sink.contents c.args.writer.now in
     let kept = g.H.Host.copies c.args.host.now in
-    subst (λ (a : Asked). FeedsCopying g.D.Disk.is_lawful g.D.Disk.state g.D.Disk.failures g.L.Law.answers g.W.Voice.marks g.H.New.Disk.is_lawful g.H.New.Disk.state (Ok tt) w w kept kept k k (new_to k (asked_for a)) (notes_for a))
+    subst (λ (a : Asked). FeedsCopying g.D.Disk.view g.L.Law.answers g.W.Voice.marks g.H.New.Disk.view (Ok tt) w w kept kept k k (new_to k (asked_for a)) (notes_for a))
     (sym (c.in-One.is ∙ ap (λ (o : Order). One o) c.in-Seen.is)) (fed_uncopied [] refl refl (fed_nothing c.requires.whole))
 
 pub returns-in-Seen-clause-held : goal.returns-in-Seen-clause-held
@@ -44,7 +44,7 @@ returns-in-Answer-clause-fed g c =
     let old = g.E.Obey.keeping c.args.engine.now in
     let new = g.E.Obey.keeping c.answer_aloud.new.engine in
     let kept = g.H.Host.copies c.args.host.now in
-    subst (λ (a : Asked). FeedsCopying g.D.Disk.is_lawful g.D.Disk.state g.D.Disk.failures g.L.Law.answers g.W.Voice.marks g.H.New.Disk.is_lawful g.H.New.Disk.state c.answer_aloud.result (g.W.Sink.contents c.args.writer.now) (g.W.Sink.contents c.answer_aloud.new.writer) kept kept old new (new_to old (asked_for a)) (notes_for a))
+    subst (λ (a : Asked). FeedsCopying g.D.Disk.view g.L.Law.answers g.W.Voice.marks g.H.New.Disk.view c.answer_aloud.result (g.W.Sink.contents c.args.writer.now) (g.W.Sink.contents c.answer_aloud.new.writer) kept kept old new (new_to old (asked_for a)) (notes_for a))
     (sym (c.in-One.is ∙ ap (λ (o : Order). One o) c.in-Answer.is)) (fed_uncopied (to_answer c.in-Answer.vertex c.in-Answer.wanted ∷ []) refl refl c.answer_aloud.ensures.fed)
 
 pub returns-in-Answer-clause-held : goal.returns-in-Answer-clause-held
@@ -67,7 +67,7 @@ returns-in-Epochs-clause-fed g c =
     let old = g.E.Obey.keeping c.args.engine.now in
     let new = g.E.Obey.keeping c.submit.new.engine in
     let kept = g.H.Host.copies c.args.host.now in
-    subst (λ (a : Asked). FeedsCopying g.D.Disk.is_lawful g.D.Disk.state g.D.Disk.failures g.L.Law.answers g.W.Voice.marks g.H.New.Disk.is_lawful g.H.New.Disk.state c.submit.result (g.W.Sink.contents c.args.writer.now) (g.W.Sink.contents c.submit.new.writer) kept kept old new (new_to old (asked_for a)) (notes_for a))
+    subst (λ (a : Asked). FeedsCopying g.D.Disk.view g.L.Law.answers g.W.Voice.marks g.H.New.Disk.view c.submit.result (g.W.Sink.contents c.args.writer.now) (g.W.Sink.contents c.submit.new.writer) kept kept old new (new_to old (asked_for a)) (notes_for a))
     (sym (c.in-Epochs.is)) (fed_uncopied [] refl refl c.submit.ensures.fed)
 
 pub returns-in-Submit-clause-fed : goal.returns-in-Submit-clause-fed
@@ -75,7 +75,7 @@ returns-in-Submit-clause-fed g c =
     let old = g.E.Obey.keeping c.args.engine.now in
     let new = g.E.Obey.keeping c.submit-in-Submit.new.engine in
     let kept = g.H.Host.copies c.args.host.now in
-    subst (λ (a : Asked). FeedsCopying g.D.Disk.is_lawful g.D.Disk.state g.D.Disk.failures g.L.Law.answers g.W.Voice.marks g.H.New.Disk.is_lawful g.H.New.Disk.state c.submit-in-Submit.result (g.W.Sink.contents c.args.writer.now) (g.W.Sink.contents c.submit-in-Submit.new.writer) kept kept old new (new_to old (asked_for a)) (notes_for a))
+    subst (λ (a : Asked). FeedsCopying g.D.Disk.view g.L.Law.answers g.W.Voice.marks g.H.New.Disk.view c.submit-in-Submit.result (g.W.Sink.contents c.args.writer.now) (g.W.Sink.contents c.submit-in-Submit.new.writer) kept kept old new (new_to old (asked_for a)) (notes_for a))
     (sym (c.in-One.is ∙ ap (λ (o : Order). One o) c.in-Submit.is)) (fed_uncopied [] refl refl c.submit-in-Submit.ensures.fed)
 
 pub returns-in-SubmitAs-clause-fed : goal.returns-in-SubmitAs-clause-fed
@@ -83,7 +83,7 @@ returns-in-SubmitAs-clause-fed g c =
     let old = g.E.Obey.keeping c.args.engine.now in
     let new = g.E.Obey.keeping c.submit-in-SubmitAs.new.engine in
     let kept = g.H.Host.copies c.args.host.now in
-    subst (λ (a : Asked). FeedsCopying g.D.Disk.is_lawful g.D.Disk.state g.D.Disk.failures g.L.Law.answers g.W.Voice.marks g.H.New.Disk.is_lawful g.H.New.Disk.state c.submit-in-SubmitAs.result (g.W.Sink.contents c.args.writer.now) (g.W.Sink.contents c.submit-in-SubmitAs.new.writer) kept kept old new (new_to old (asked_for a)) (notes_for a))
+    subst (λ (a : Asked). FeedsCopying g.D.Disk.view g.L.Law.answers g.W.Voice.marks g.H.New.Disk.view c.submit-in-SubmitAs.result (g.W.Sink.contents c.args.writer.now) (g.W.Sink.contents c.submit-in-SubmitAs.new.writer) kept kept old new (new_to old (asked_for a)) (notes_for a))
     (sym (c.in-One.is ∙ ap (λ (o : Order). One o) c.in-SubmitAs.is)) (fed_uncopied [] refl refl c.submit-in-SubmitAs.ensures.fed)
 
 pub returns-in-SubmitAt-default-eq0-default-clause-fed : goal.returns-in-SubmitAt-default-eq0-default-clause-fed
@@ -94,7 +94,7 @@ returns-in-SubmitAt-default-eq0-default-clause-fed g c =
     let place = c.in-SubmitAt-default-eq0-default.field-0 in
     let batch = c.in-SubmitAt-default-eq0-default.batch in
     let none : c.in-SubmitAt-default-eq0-default.field-1 ≡ 0 = search rules in
-    subst (λ (a : Asked). FeedsCopying g.D.Disk.is_lawful g.D.Disk.state g.D.Disk.failures g.L.Law.answers g.W.Voice.marks g.H.New.Disk.is_lawful g.H.New.Disk.state c.submit-in-SubmitAt-default-eq0-default.result (g.W.Sink.contents c.args.writer.now) (g.W.Sink.contents c.submit-in-SubmitAt-default-eq0-default.new.writer) kept kept old new (new_to old (asked_for a)) (notes_for a))
+    subst (λ (a : Asked). FeedsCopying g.D.Disk.view g.L.Law.answers g.W.Voice.marks g.H.New.Disk.view c.submit-in-SubmitAt-default-eq0-default.result (g.W.Sink.contents c.args.writer.now) (g.W.Sink.contents c.submit-in-SubmitAt-default-eq0-default.new.writer) kept kept old new (new_to old (asked_for a)) (notes_for a))
     (sym (c.in-One.is ∙ ap (λ (o : Order). One o) (c.in-SubmitAt-default-eq0-default.is ∙ ap (λ (request : ℕ). SubmitAt place request batch) none)))
     (fed_uncopied [] refl refl c.submit-in-SubmitAt-default-eq0-default.ensures.fed)
 
@@ -103,7 +103,7 @@ returns-in-SubmitAt-clause-fed g c =
     let old = g.E.Obey.keeping c.args.engine.now in
     let new = g.E.Obey.keeping c.submit-in-SubmitAt.new.engine in
     let kept = g.H.Host.copies c.args.host.now in
-    subst (λ (a : Asked). FeedsCopying g.D.Disk.is_lawful g.D.Disk.state g.D.Disk.failures g.L.Law.answers g.W.Voice.marks g.H.New.Disk.is_lawful g.H.New.Disk.state c.submit-in-SubmitAt.result (g.W.Sink.contents c.args.writer.now) (g.W.Sink.contents c.submit-in-SubmitAt.new.writer) kept kept old new (new_to old (asked_for a)) (notes_for a))
+    subst (λ (a : Asked). FeedsCopying g.D.Disk.view g.L.Law.answers g.W.Voice.marks g.H.New.Disk.view c.submit-in-SubmitAt.result (g.W.Sink.contents c.args.writer.now) (g.W.Sink.contents c.submit-in-SubmitAt.new.writer) kept kept old new (new_to old (asked_for a)) (notes_for a))
     (sym (c.in-One.is ∙ ap (λ (o : Order). One o) c.in-SubmitAt.is)) (fed_uncopied [] refl refl c.submit-in-SubmitAt.ensures.fed)
 
 pub returns-in-Cut-clause-fed : goal.returns-in-Cut-clause-fed
@@ -111,7 +111,7 @@ returns-in-Cut-clause-fed g c =
     let old = g.E.Obey.keeping c.args.engine.now in
     let new = g.E.Obey.keeping c.cut.new.engine in
     let kept = g.H.Host.copies c.args.host.now in
-    subst (λ (a : Asked). FeedsCopying g.D.Disk.is_lawful g.D.Disk.state g.D.Disk.failures g.L.Law.answers g.W.Voice.marks g.H.New.Disk.is_lawful g.H.New.Disk.state c.cut.result (g.W.Sink.contents c.args.writer.now) (g.W.Sink.contents c.cut.new.writer) kept kept old new (new_to old (asked_for a)) (notes_for a))
+    subst (λ (a : Asked). FeedsCopying g.D.Disk.view g.L.Law.answers g.W.Voice.marks g.H.New.Disk.view c.cut.result (g.W.Sink.contents c.args.writer.now) (g.W.Sink.contents c.cut.new.writer) kept kept old new (new_to old (asked_for a)) (notes_for a))
     (sym (c.in-One.is ∙ ap (λ (o : Order). One o) c.in-Cut.is)) (fed_uncopied [] refl refl c.cut.ensures.fed)
 
 pub returns-in-Copy-clause-disk : goal.returns-in-Copy-clause-disk
@@ -120,9 +120,9 @@ returns-in-Copy-clause-disk g c = disk_same c.copy_aloud.result refl (no_device_
 pub returns-in-Copy-clause-fed : goal.returns-in-Copy-clause-fed
 returns-in-Copy-clause-fed g c =
     let k = g.E.Obey.keeping c.args.engine.now in
-    subst (λ (a : Asked). FeedsCopying g.D.Disk.is_lawful g.D.Disk.state g.D.Disk.failures g.L.Law.answers g.W.Voice.marks g.H.New.Disk.is_lawful g.H.New.Disk.state c.copy_aloud.result (g.W.Sink.contents c.args.writer.now) (g.W.Sink.contents c.copy_aloud.new.writer) (g.H.Host.copies c.args.host.now) (g.H.Host.copies c.copy_aloud.new.host) k k (new_to k (asked_for a)) (notes_for a))
+    subst (λ (a : Asked). FeedsCopying g.D.Disk.view g.L.Law.answers g.W.Voice.marks g.H.New.Disk.view c.copy_aloud.result (g.W.Sink.contents c.args.writer.now) (g.W.Sink.contents c.copy_aloud.new.writer) (g.H.Host.copies c.args.host.now) (g.H.Host.copies c.copy_aloud.new.host) k k (new_to k (asked_for a)) (notes_for a))
     (sym (c.in-One.is ∙ ap (λ (o : Order). One o) c.in-Copy.is))
-    (subst (λ (l : Keeping g.row.D.Denot). FeedsCopying g.D.Disk.is_lawful g.D.Disk.state g.D.Disk.failures g.L.Law.answers g.W.Voice.marks g.H.New.Disk.is_lawful g.H.New.Disk.state c.copy_aloud.result (g.W.Sink.contents c.args.writer.now) (g.W.Sink.contents c.copy_aloud.new.writer) (g.H.Host.copies c.args.host.now) (g.H.Host.copies c.copy_aloud.new.host) l l [] (to_copy c.in-Copy.copy.name c.in-Copy.copy.shape None ∷ [])) c.keeper.ensures
+    (subst (λ (l : Keeping g.row.D.Denot). FeedsCopying g.D.Disk.view g.L.Law.answers g.W.Voice.marks g.H.New.Disk.view c.copy_aloud.result (g.W.Sink.contents c.args.writer.now) (g.W.Sink.contents c.copy_aloud.new.writer) (g.H.Host.copies c.args.host.now) (g.H.Host.copies c.copy_aloud.new.host) l l [] (to_copy c.in-Copy.copy.name c.in-Copy.copy.shape None ∷ [])) c.keeper.ensures
     (c.copy_aloud.ensures.fed g.W.Voice.marks))
 
 pub returns-in-Copy-clause-held : goal.returns-in-Copy-clause-held

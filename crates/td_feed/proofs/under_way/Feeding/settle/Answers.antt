@@ -1,5 +1,5 @@
 use Rattle.std.proofs.Common.{refl, ap, sym, ◌∙◌}
-use Rattle.td_standing.specs.Standing.{last_epoch}
+use Rattle.td_store.specs.standing.Standing.{last_epoch}
 use Rattle.td_keeper.specs.declared.command.Command.TheVariants.{Settle, Collect}
 use Rattle.std.proofs.lemmas.Result.{on_ok_weaker}
 use Rattle.td_feed.proofs.Sessions.{disk_then, disk_handed, fed_after, fed_handed, fed_refused, fed_quietly, went_on, to_the_end}

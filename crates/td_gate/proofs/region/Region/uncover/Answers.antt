@@ -8,7 +8,7 @@ returns-clause-crash_safe g c lawful payload filled =
 pub returns-clause-open : goal.returns-clause-open
 returns-clause-open g c = on_ok_both c.write_and_sync.result c.write_and_sync.ensures.durable c.write_and_sync.ensures.written (λ durable written lawful payload filled.
     let laws = g.met.D.Disk in
-    let still = c.write_and_sync.ensures.lawful.0 lawful in
-    open_done c.args.self.now payload (g.D.Disk.state c.args.device.now) (g.D.Disk.state c.write_and_sync.new.device)
+    let still = c.write_and_sync.ensures.device.lawful.0 lawful in
+    open_done c.args.self.now payload (g.D.Disk.view c.args.device.now).state (g.D.Disk.view c.write_and_sync.new.device).state
     (record { counts_now = λ t f. laws.counts_now c.write_and_sync.new.device t f still; only_now = λ f. laws.only_now c.write_and_sync.new.device f still })
     (laws.reads_image c.write_and_sync.new.device still) filled (c.write_and_sync.ensures.crash_safe lawful) (durable lawful) (written lawful))

@@ -11,27 +11,27 @@ put-requires-clause-len g c = ap length (c.deref.ensures.value ∙ c.in_ok-paylo
 
 pub returns-in_err-put-clause-crash_safe : goal.returns-in_err-put-clause-crash_safe
 returns-in_err-put-clause-crash_safe g c lawful settled =
-    let state = g.D.Disk.state in
+    let view = g.D.Disk.view in
     let region = c.cell_of.ensures.region in
     let payload = c.deref.ensures.value ∙ c.in_ok-payload.ensures.ok in
-    subst (λ (r : Region). CrashSafe (Puts r (cell_bytes c.args.self.now.m c.args.epoch c.args.request c.args.batch.now)) (state c.args.device.now) (state c.put.new.device)) region
-    (subst (λ (p : List ℕ). CrashSafe (Puts c.cell_of.result p) (state c.args.device.now) (state c.put.new.device)) payload
-    (c.in_err-put.ensures.crash_safe lawful (subst (λ (r : Region). IsSettled r (state c.args.device.now)) (sym region) settled)))
+    subst (λ (r : Region). CrashSafe (Puts r (cell_bytes c.args.self.now.m c.args.epoch c.args.request c.args.batch.now)) (view c.args.device.now).state (view c.put.new.device).state) region
+    (subst (λ (p : List ℕ). CrashSafe (Puts c.cell_of.result p) (view c.args.device.now).state (view c.put.new.device).state) payload
+    (c.in_err-put.ensures.crash_safe lawful (subst (λ (r : Region). IsSettled r (view c.args.device.now).state) (sym region) settled)))
 
 pub returns-clause-crash_safe : goal.returns-clause-crash_safe
 returns-clause-crash_safe g c lawful settled =
-    let state = g.D.Disk.state in
+    let view = g.D.Disk.view in
     let region = c.cell_of.ensures.region in
     let payload = c.deref.ensures.value ∙ c.in_ok-payload.ensures.ok in
-    subst (λ (r : Region). CrashSafe (Puts r (cell_bytes c.args.self.now.m c.args.epoch c.args.request c.args.batch.now)) (state c.args.device.now) (state c.put.new.device)) region
-    (subst (λ (p : List ℕ). CrashSafe (Puts c.cell_of.result p) (state c.args.device.now) (state c.put.new.device)) payload
-    (c.in_ok-put.ensures.crash_safe lawful (subst (λ (r : Region). IsSettled r (state c.args.device.now)) (sym region) settled)))
+    subst (λ (r : Region). CrashSafe (Puts r (cell_bytes c.args.self.now.m c.args.epoch c.args.request c.args.batch.now)) (view c.args.device.now).state (view c.put.new.device).state) region
+    (subst (λ (p : List ℕ). CrashSafe (Puts c.cell_of.result p) (view c.args.device.now).state (view c.put.new.device).state) payload
+    (c.in_ok-put.ensures.crash_safe lawful (subst (λ (r : Region). IsSettled r (view c.args.device.now).state) (sym region) settled)))
 
 pub returns-clause-open : goal.returns-clause-open
 returns-clause-open g c lawful settled =
-    let state = g.D.Disk.state in
+    let view = g.D.Disk.view in
     let region = c.cell_of.ensures.region in
     let payload = c.deref.ensures.value ∙ c.in_ok-payload.ensures.ok in
-    subst (λ (r : Region). IsOpen r (cell_bytes c.args.self.now.m c.args.epoch c.args.request c.args.batch.now) (state c.put.new.device)) region
-    (subst (λ (p : List ℕ). IsOpen c.cell_of.result p (state c.put.new.device)) payload
-    (c.in_ok-put.ensures.open lawful (subst (λ (r : Region). IsSettled r (state c.args.device.now)) (sym region) settled)))
+    subst (λ (r : Region). IsOpen r (cell_bytes c.args.self.now.m c.args.epoch c.args.request c.args.batch.now) (view c.put.new.device).state) region
+    (subst (λ (p : List ℕ). IsOpen c.cell_of.result p (view c.put.new.device).state) payload
+    (c.in_ok-put.ensures.open lawful (subst (λ (r : Region). IsSettled r (view c.args.device.now).state) (sym region) settled)))

@@ -18,7 +18,7 @@ not_failed x e new old (inr same) = same
 
 pub loop-i-init : goal.loop-i-init
 loop-i-init g c =
-    let find : Option ℕ → ℕ → Found = found c.args.inputs.now c.args.self.now (g.D.Disk.state c.args.device.now).bytes in
+    let find : Option ℕ → ℕ → Found = found c.args.inputs.now c.args.self.now (g.D.Disk.view c.args.device.now).state.bytes in
     record {
       told = ([], sym c.new-told.ensures.items, All-nil (λ x. is_batch c.args.inputs.now x.batch ≡ true), λ lawful. left_first find c.args.self.now.n c.args.checkpoint c.args.floor);
       size = omega (arith, c.in_ok-bytes.ensures.len);
@@ -30,7 +30,7 @@ loop-i-init g c =
 
 pub returns-clause-told : goal.returns-clause-told
 returns-clause-told g c =
-    let find : Option ℕ → ℕ → Found = found c.args.inputs.now c.args.self.now (g.D.Disk.state c.args.device.now).bytes in
+    let find : Option ℕ → ℕ → Found = found c.args.inputs.now c.args.self.now (g.D.Disk.view c.args.device.now).state.bytes in
     let so_far = c.loop-i.invariant.told in
     let w = so_far.0 in
     let done : c.loop-i.i ≡ c.args.self.now.n = omega (arith, c.loop-i-test.false, c.loop-i.auto.i-end) in (
@@ -44,14 +44,14 @@ returns-clause-told g c =
 
 pub returns-in-Ok-None-clause-told : goal.returns-in-Ok-None-clause-told
 returns-in-Ok-None-clause-told g c =
-    let state = g.D.Disk.state in
+    let view = g.D.Disk.view in
     let inputs = c.args.inputs.now in
-    let find : Option ℕ → ℕ → Found = found inputs c.args.self.now (state c.args.device.now).bytes in
+    let find : Option ℕ → ℕ → Found = found inputs c.args.self.now (view c.args.device.now).state.bytes in
     let so_far = c.loop-i.invariant.told in
     let w = so_far.0 in
     let i = c.loop-i.i in
     let floor = c.loop-i.greatest in
-    let ends = subst (IsKept g.K.Keeping.kept_of inputs (λ f. g.D.Disk.is_lawful c.loop-i.device → found inputs c.args.self.now (state c.loop-i.device).bytes floor (c.args.checkpoint + 1 + c.from.result) ≡ f))
+    let ends = subst (IsKept g.K.Keeping.kept_of inputs (λ f. (g.D.Disk.view c.loop-i.device).lawful → found inputs c.args.self.now (view c.loop-i.device).state.bytes floor (c.args.checkpoint + 1 + c.from.result) ≡ f))
     c.in-Ok-None.field-0-is c.in-Ok-None.ensures.found in (
       w,
       so_far.1,
@@ -66,8 +66,8 @@ returns-in-Ok-None-clause-told g c =
 
 pub returns-in-Err-clause-refused : goal.returns-in-Err-clause-refused
 returns-in-Err-clause-refused g c =
-    let state = g.D.Disk.state in
-    let find : Option ℕ → ℕ → Found = found c.args.inputs.now c.args.self.now (state c.args.device.now).bytes in
+    let view = g.D.Disk.view in
+    let find : Option ℕ → ℕ → Found = found c.args.inputs.now c.args.self.now (view c.args.device.now).state.bytes in
     let so_far = c.loop-i.invariant.told in
     let w = so_far.0 in
     let i = c.loop-i.i in
@@ -76,7 +76,7 @@ returns-in-Err-clause-refused g c =
     let rest = left_from find c.args.self.now.n c.args.checkpoint (past floor f) (i + 1) in
     ⊎_elim (λ device. inl device) (λ other. ⊎_elim (λ memory. inr (inl memory)) (λ damage. inr (inr (λ lawful.
     let still = c.loop-i.invariant.read.lawful.0 lawful in
-    let here : f ≡ found c.args.inputs.now c.args.self.now (state c.loop-i.device).bytes floor (c.args.checkpoint + 1 + c.from.result) =
+    let here : f ≡ found c.args.inputs.now c.args.self.now (view c.loop-i.device).state.bytes floor (c.args.checkpoint + 1 + c.from.result) =
     ap (λ (n : ℕ). find floor (c.args.checkpoint + 1 + n)) (sym c.from.ensures)
     ∙ ap (λ (b : List ℕ). found c.args.inputs.now c.args.self.now b floor (c.args.checkpoint + 1 + c.from.result)) (sym (c.loop-i.invariant.read.same lawful)) in
     so_far.3 lawful
@@ -85,17 +85,17 @@ returns-in-Err-clause-refused g c =
 
 pub loop-i-preserved : goal.loop-i-preserved
 loop-i-preserved g c =
-    let state = g.D.Disk.state in
+    let view = g.D.Disk.view in
     let of = g.K.Keeping.kept_of in
     let inputs = c.args.inputs.now in
-    let find : Option ℕ → ℕ → Found = found inputs c.args.self.now (state c.args.device.now).bytes in
+    let find : Option ℕ → ℕ → Found = found inputs c.args.self.now (view c.args.device.now).state.bytes in
     let inv = c.loop-i.invariant in
     let w = inv.told.0 in
     let told = c.loop-i.told.items in
     let i = c.loop-i.i in
     let floor = c.loop-i.greatest in
     let kept = c.in-Ok-Some.kept in
-    let more = subst (IsKept of inputs (λ f. g.D.Disk.is_lawful c.loop-i.device → found inputs c.args.self.now (state c.loop-i.device).bytes floor (c.args.checkpoint + 1 + c.from.result) ≡ f))
+    let more = subst (IsKept of inputs (λ f. (g.D.Disk.view c.loop-i.device).lawful → found inputs c.args.self.now (view c.loop-i.device).state.bytes floor (c.args.checkpoint + 1 + c.from.result) ≡ f))
     c.in-Ok-Some.field-0-is c.in-Ok-Some.ensures.found in
     let s = more.0 in
     let looked_for : c.args.checkpoint + 1 + c.from.result < 2 ^ 63 =
@@ -119,7 +119,7 @@ loop-i-preserved g c =
       size = written_over c.loop-i.bytes.len c.kept_at.new.bytes c.loop-i.bytes.items (sym c.loop-i.bytes.ok.0) ∙ c.loop-i.bytes.ok.0 ∙ inv.size;
       count = ap length c.in_ok-push-in-Ok-Some.ensures.items ∙ length-append told (kept ∷ []) ∙ ap (λ (n : ℕ). n + 1) inv.count;
       below = omega (arith, looked_for, c.from.ensures);
-      count_stays = not_failed c.in-Ok-Some.field-0 Device (g.D.Disk.failures c.kept_at.new.device) (g.D.Disk.failures c.loop-i.device) c.in-Ok-Some.ensures.failures.stays ∙ inv.count_stays;
+      count_stays = not_failed c.in-Ok-Some.field-0 Device (g.D.Disk.view c.kept_at.new.device).failures (g.D.Disk.view c.loop-i.device).failures c.in-Ok-Some.ensures.failures.stays ∙ inv.count_stays;
       read = c.reads_in_turn.ensures.read _ _ _ inv.read c.in-Ok-Some.ensures.read;
     }
 

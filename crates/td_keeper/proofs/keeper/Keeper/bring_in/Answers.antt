@@ -3,7 +3,7 @@ use Rattle.td_watch.specs.Words.{KeepsOrder}
 use Rattle.td_machine.specs.State.{HallState}
 use Rattle.td_machine.specs.Steps.{collect_step}
 use Rattle.td_machine.specs.Sound.{outs_by}
-use Rattle.td_standing.specs.Standing.{standing_from}
+use Rattle.td_store.specs.standing.Standing.{standing_from}
 use Rattle.td_keeper.specs.Keeping.{Keeping, IsKeeping, keeping_of, words_at, published}
 use Rattle.td_keeper.specs.Halls.{with_collected}
 use Rattle.td_keeper.proofs.Collecting.{still, as_many, room, fits, meant_by}

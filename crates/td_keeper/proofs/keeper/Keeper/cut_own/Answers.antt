@@ -1,7 +1,7 @@
 use Rattle.std.proofs.Common.{◌≡◌, ◌≤◌, ◌-◌, true, sym, ap, ◌∙◌, subst, inl, arith, rules}
 use Rattle.td_plan.specs.Tree.{tree_of}
 use Rattle.td_batch.specs.Meaning.{states_after}
-use Rattle.td_standing.specs.Standing.{batches_of}
+use Rattle.td_store.specs.standing.Standing.{batches_of}
 use Rattle.td_machine.specs.State.{HallState}
 use Rattle.td_machine.specs.Active.{has_passed}
 use Rattle.td_machine.specs.Steps.{cut_at_by}
@@ -61,7 +61,7 @@ invariant_of-self g c =
           c.in-Ok-cut_at_epoch.field-0.states c.in-Ok-cut_at_epoch.ensures.meaning,
       c.self.invariant.2,
       c.self.invariant.3,
-      λ lawful. keeps_further c.self.inside.broken c.self.inside.plan q.base c.in-Ok-cut_at_epoch.field-0.epoch (g.D.Disk.state c.self.inside.device) (omega (arith, is.0, c.in-Ok.ensures.epoch, after, own.base)) (c.self.invariant.4 lawful),
+      λ lawful. keeps_further c.self.inside.broken c.self.inside.plan q.base c.in-Ok-cut_at_epoch.field-0.epoch (g.D.Disk.view c.self.inside.device).state (omega (arith, is.0, c.in-Ok.ensures.epoch, after, own.base)) (c.self.invariant.4 lawful),
     )
 
 pub returns-clause-accepted : goal.returns-clause-accepted

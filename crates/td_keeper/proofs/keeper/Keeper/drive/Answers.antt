@@ -19,8 +19,8 @@ loop-command-preserved g c =
     let inv = c.loop-command.invariant in
     let so_far = c.loop-command.yielded in
     let command = c.in-Some.command in record {
-      driven = subst (λ (rs : List Reply). Driven g.D.Disk.is_lawful g.D.Disk.state g.D.Disk.failures g.L.Law.answers (so_far ++ command ∷ []) rs c.args.self.now c.obey.new.self) (sym c.push_reserved.ensures.items)
-          (driven_more g.D.Disk.is_lawful g.D.Disk.state g.D.Disk.failures g.L.Law.answers so_far c.loop-command.replies.items command c.obey.result c.args.self.now c.loop-command.self c.obey.new.self inv.driven c.obey.ensures.obeyed c.each_is_kept-in-loop-command.ensures);
+      driven = subst (λ (rs : List Reply). Driven g.D.Disk.view g.L.Law.answers (so_far ++ command ∷ []) rs c.args.self.now c.obey.new.self) (sym c.push_reserved.ensures.items)
+          (driven_more g.D.Disk.view g.L.Law.answers so_far c.loop-command.replies.items command c.obey.result c.args.self.now c.loop-command.self c.obey.new.self inv.driven c.obey.ensures.obeyed c.each_is_kept-in-loop-command.ensures);
       count = ap length c.push_reserved.ensures.items ∙ (length-append c.loop-command.replies.items (c.obey.result ∷ []) ∙ (ap (λ n. n + 1) inv.count ∙ sym (length-append so_far (command ∷ []))));
       room = omega (arith, c.push_reserved.ensures.capacity, inv.room);
       size = c.obey.ensures.size ∙ inv.size;
@@ -29,20 +29,20 @@ loop-command-preserved g c =
 
 pub returns-clause-counted : goal.returns-clause-counted
 returns-clause-counted g c =
-    driven_counted g.D.Disk.is_lawful g.D.Disk.state g.D.Disk.failures g.L.Law.answers c.loop-command.yielded c.loop-command.replies.items c.args.self.now c.loop-command.self c.loop-command.invariant.driven
+    driven_counted g.D.Disk.view g.L.Law.answers c.loop-command.yielded c.loop-command.replies.items c.args.self.now c.loop-command.self c.loop-command.invariant.driven
 
 pub returns-clause-never_falls : goal.returns-clause-never_falls
 returns-clause-never_falls g c =
     let law = c.last_request_never_falls.ensures in
-    driven_rises g.D.Disk.is_lawful g.D.Disk.state g.D.Disk.failures g.L.Law.answers law.submitted law.cut c.loop-command.yielded c.loop-command.replies.items c.args.self.now c.loop-command.self c.loop-command.invariant.driven
+    driven_rises g.D.Disk.view g.L.Law.answers law.submitted law.cut c.loop-command.yielded c.loop-command.replies.items c.args.self.now c.loop-command.self c.loop-command.invariant.driven
 
 pub returns-clause-broken : goal.returns-clause-broken
 returns-clause-broken g c is =
-    (driven_broken g.D.Disk.is_lawful g.D.Disk.state g.D.Disk.failures g.L.Law.answers c.loop-command.yielded c.loop-command.replies.items c.args.self.now c.loop-command.self c.loop-command.invariant.driven is).0
+    (driven_broken g.D.Disk.view g.L.Law.answers c.loop-command.yielded c.loop-command.replies.items c.args.self.now c.loop-command.self c.loop-command.invariant.driven is).0
 
 pub returns-clause-driven : goal.returns-clause-driven
 returns-clause-driven g c =
-    let state = g.D.Disk.state in
+    let view = g.D.Disk.view in
     let answers = g.L.Law.answers in
     let old = c.args.self.now in
     let new = c.loop-command.self in
@@ -55,18 +55,18 @@ returns-clause-driven g c =
     let end = YieldsList-end source yielded c.loop-command.command-iterator c.loop-command.yielded_by c.next.result c.next.new.self c.in-None.is c.next.ensures.steps in
     let same : yielded ≡ all = sym (map-id yielded) ∙ end.0 in
     let join = c.advances_join.ensures in
-    let further : g.D.Disk.is_lawful old.device → old.broken ≡ false → Advances g.D.Disk.is_lawful state g.D.Disk.failures answers old new (submitted_by yielded replies) =
-    driven_advances g.D.Disk.is_lawful state g.D.Disk.failures answers join.submitted join.cut join.later join.last yielded replies old new c.each_is_kept.ensures driven in
-    subst (λ (l : List Command). Drives g.D.Disk.is_lawful state g.D.Disk.failures answers l replies old new) same
+    let further : (g.D.Disk.view old.device).lawful → old.broken ≡ false → Advances g.D.Disk.view answers old new (submitted_by yielded replies) =
+    driven_advances g.D.Disk.view answers join.submitted join.cut join.later join.last yielded replies old new c.each_is_kept.ensures driven in
+    subst (λ (l : List Command). Drives g.D.Disk.view answers l replies old new) same
     (record {
       driven = driven;
-      fails = driven_failed g.D.Disk.is_lawful state g.D.Disk.failures answers yielded replies old new driven;
-      whole = driven_whole g.D.Disk.is_lawful state g.D.Disk.failures answers yielded replies old new driven;
-      outputs = driven_hands g.D.Disk.is_lawful state g.D.Disk.failures answers c.run_joins.ensures.outs join.last yielded replies old new c.each_is_kept.ensures driven;
+      fails = driven_failed g.D.Disk.view answers yielded replies old new driven;
+      whole = driven_whole g.D.Disk.view answers yielded replies old new driven;
+      outputs = driven_hands g.D.Disk.view answers c.run_joins.ensures.outs join.last yielded replies old new c.each_is_kept.ensures driven;
       images = λ lawful whole.
-          from_start answers old.plan c.told_in_parts.ensures.together old.head old.side old.standing (submitted_by yielded replies) (state old.device) (state new.device)
+          from_start answers old.plan c.told_in_parts.ensures.together old.head old.side old.standing (submitted_by yielded replies) (view old.device).state (view new.device).state
           (λ d. g.met.D.Disk.only_now old.device d lawful) (c.standings_advance.ensures.not_yet (tree_of old.plan) old.standing (submitted_by yielded replies))
-          (keeps_of old.broken answers old.plan old.head old.side old.standing (state old.device) whole (c.each_disk_holds.ensures lawful))
+          (keeps_of old.broken answers old.plan old.head old.side old.standing (view old.device).state whole (c.each_disk_holds.ensures lawful))
           ((further lawful whole).since whole);
       further = further;
     })

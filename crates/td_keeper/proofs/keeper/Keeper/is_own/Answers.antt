@@ -1,6 +1,6 @@
 use Rattle.std.proofs.Common.{List, drop, sym, ap, ◌∙◌, subst, true≢false}
 use Rattle.td_stamp.specs.declared.values.Entry.{Entry}
-use Rattle.td_standing.specs.Standing.{batches_of}
+use Rattle.td_store.specs.standing.Standing.{batches_of}
 use Rattle.td_keeper.specs.Keeping.{Keeping, since_base}
 use Rattle.td_keeper.specs.Halls.{Begin}
 use Rattle.td_keeper.proofs.keeper.Keeper.is_own.Goals as goal

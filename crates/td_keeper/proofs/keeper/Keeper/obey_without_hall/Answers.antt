@@ -1,10 +1,10 @@
 use Rattle.std.proofs.Common.{◌≡◌, ◌+◌, ◌∙◌, List, [], ◌∷◌, true, false, true≢false, sym, ap, subst, ⊎_elim, inl, inr, refl, Some, None, Ok, Err}
 use Rattle.std.specs.Prelude.{Option, ℕ}
 use Rattle.td_journal.specs.declared.submitted.Submitted.{Submitted as AnySubmitted}
-use Rattle.td_standing.specs.Standing.{last_epoch, submission}
-use Rattle.td_standing.specs.Advanced.{AdvancesSince}
-use Rattle.td_standing.specs.declared.error.KeeperError.{KeeperError}
-use Rattle.td_standing.specs.declared.error.KeeperError.TheVariants as error
+use Rattle.td_store.specs.standing.Standing.{last_epoch, submission}
+use Rattle.td_store.specs.standing.Advanced.{AdvancesSince}
+use Rattle.td_store.specs.declared.standing.error.KeeperError.{KeeperError}
+use Rattle.td_store.specs.declared.standing.error.KeeperError.TheVariants as error
 use Rattle.td_keeper.specs.declared.command.Reply.TheVariants.{Submitted, SubmittedAll, Written, Closed, Refused, RefusedAll}
 use Rattle.td_keeper.specs.declared.group.GroupError.{GroupError}
 use Rattle.td_keeper.specs.declared.group.GroupError.TheVariants.{Keeper as ByKeeper}
@@ -29,7 +29,7 @@ returns-in-Err-clause-obeyed g c =
     let e = c.in-Err.ensures in
     let r = e.refused in
     let old = c.args.self.now in
-    let state = g.D.Disk.state in
+    let view = g.D.Disk.view in
     rw (c.in-Submit.is, c.refused.ensures) (
       record {
         batch_back = ap Some e.back;
@@ -40,7 +40,7 @@ returns-in-Err-clause-obeyed g c =
       },
       writes_refused {T = ℕ} {answers = g.L.Law.answers} (Refused c.in-Err.error (Some c.in-Err.batch)) old c.submit.new.self (submission 0 c.in-Submit.batch ∷ []) _ c.in-Err.error (failed_said c.in-Err.error) e.device e.crash
           (λ lawful whole.
-          refused_in (λ (x : List AnySubmitted). AdvancesSince g.L.Law.answers old.plan old.standing x (last_epoch old.standing) (state old.device) (state c.submit.new.self.device))
+          refused_in (λ (x : List AnySubmitted). AdvancesSince g.L.Law.answers old.plan old.standing x (last_epoch old.standing) (view old.device).state (view c.submit.new.self.device).state)
           (submission 0 c.in-Submit.batch ∷ []) c.in-Err.error ((e.crash lawful).further whole) (⊎_elim inl (λ none. inr (none lawful whole)) r.nothing)),
     )
 
@@ -82,7 +82,7 @@ returns-in-Ok-submit_as-clause-obeyed g c =
           lawful = d.lawful.0 lawful;
           later = (e.crash lawful).later;
           since = λ whole.
-              received_since g.D.Disk.state g.L.Law.answers c.in-SubmitAs.request c.in-SubmitAs.batch c.in-Ok-submit_as.receipt c.args.self.now c.submit_as.new.self e.answered.received ((e.crash lawful).further whole);
+              received_since g.D.Disk.view g.L.Law.answers c.in-SubmitAs.request c.in-SubmitAs.batch c.in-Ok-submit_as.receipt c.args.self.now c.submit_as.new.self e.answered.received ((e.crash lawful).further whole);
         };
         short = λ lawful. (e.crash lawful).short;
       },
@@ -93,7 +93,7 @@ returns-in-Err-submit_as-clause-obeyed g c =
     let e = c.in-Err-submit_as.ensures in
     let r = e.refused in
     let old = c.args.self.now in
-    let state = g.D.Disk.state in
+    let view = g.D.Disk.view in
     let x : List AnySubmitted = submission c.in-SubmitAs.request c.in-SubmitAs.batch ∷ [] in
     rw (c.in-SubmitAs.is, c.refused-in-Err-submit_as.ensures) (
       record {
@@ -108,7 +108,7 @@ returns-in-Err-submit_as-clause-obeyed g c =
       },
       writes_refused {T = Receipt} {answers = g.L.Law.answers} (Refused c.in-Err-submit_as.error (Some c.in-Err-submit_as.batch)) old c.submit_as.new.self x _ c.in-Err-submit_as.error (failed_said c.in-Err-submit_as.error) e.device e.crash
           (λ lawful whole.
-          refused_in (λ (l : List AnySubmitted). AdvancesSince g.L.Law.answers old.plan old.standing l (last_epoch old.standing) (state old.device) (state c.submit_as.new.self.device))
+          refused_in (λ (l : List AnySubmitted). AdvancesSince g.L.Law.answers old.plan old.standing l (last_epoch old.standing) (view old.device).state (view c.submit_as.new.self.device).state)
           x c.in-Err-submit_as.error ((e.crash lawful).further whole) (⊎_elim inl (λ none. inr (none lawful whole)) r.nothing)),
     )
 
@@ -117,7 +117,7 @@ returns-in-Err-submit_all-clause-obeyed g c =
     let e = c.in-Err-submit_all.ensures in
     let r = e.refused in
     let old = c.args.self.now in
-    let state = g.D.Disk.state in
+    let view = g.D.Disk.view in
     rw c.in-SubmitAll.is (
       record {
         group_back = e.back;
@@ -129,7 +129,7 @@ returns-in-Err-submit_all-clause-obeyed g c =
       },
       writes_refused {T = ℕ} {answers = g.L.Law.answers} (RefusedAll c.in-Err-submit_all.error c.in-Err-submit_all.group) old c.submit_all.new.self c.in-SubmitAll.group _ c.in-Err-submit_all.error (all_failed_said c.in-Err-submit_all.error) e.device e.crash
           (λ lawful whole.
-          none_in (λ (l : List AnySubmitted). AdvancesSince g.L.Law.answers old.plan old.standing l (last_epoch old.standing) (state old.device) (state c.submit_all.new.self.device))
+          none_in (λ (l : List AnySubmitted). AdvancesSince g.L.Law.answers old.plan old.standing l (last_epoch old.standing) (view old.device).state (view c.submit_all.new.self.device).state)
           c.in-SubmitAll.group c.in-Err-submit_all.error ((e.crash lawful).further whole) (⊎_elim inl (λ none. inr (none lawful whole)) r.nothing)),
     )
 

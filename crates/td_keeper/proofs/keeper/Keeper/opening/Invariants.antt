@@ -1,5 +1,5 @@
 use Rattle.std.proofs.Common.{◌≡◌, take}
-use Rattle.td_standing.specs.Standing.{batches_of}
+use Rattle.td_store.specs.standing.Standing.{batches_of}
 use Rattle.td_keeper.proofs.keeper.Keeper.opening.Given as goal
 
 abbrev pub invariant-loop-i : goal.invariant-loop-i

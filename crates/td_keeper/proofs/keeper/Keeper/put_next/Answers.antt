@@ -10,12 +10,12 @@ use Rattle.td_journal.specs.Numbers.{greatest}
 use Rattle.td_journal.specs.declared.error.JournalError.{JournalError as AnyError}
 use Rattle.td_journal.specs.declared.error.JournalError.TheVariants as JournalError
 use Rattle.td_journal.specs.declared.submitted.Submitted.{Submitted}
-use Rattle.td_standing.specs.Standing.{standing_from, last_epoch, last_request, with_more}
-use Rattle.td_standing.specs.Stops.{Advance, Holds}
-use Rattle.td_standing.specs.Told.{ring_of}
-use Rattle.td_group.specs.Groups.{HasRoomFor}
-use Rattle.td_standing.specs.Tells.{Keeps}
-use Rattle.td_standing.specs.Advanced.{AdvancesSince, HeldWhere, states_by}
+use Rattle.td_store.specs.standing.Standing.{standing_from, last_epoch, last_request, with_more}
+use Rattle.td_store.specs.standing.Stops.{Advance, Holds}
+use Rattle.td_store.specs.standing.Told.{ring_of}
+use Rattle.td_store.specs.group.Groups.{HasRoomFor}
+use Rattle.td_store.specs.standing.Tells.{Keeps}
+use Rattle.td_store.specs.standing.Advanced.{AdvancesSince, HeldWhere, states_by}
 use Rattle.td_keeper.specs.Grouped.{AllOrNone}
 use Rattle.td_keeper.specs.Keeping.{Keeping, IsKeeping, KeepsSince, keeping_of, words_at, published, IsBelow}
 use Rattle.td_keeper.proofs.Kept.{submitted, elsewhere}
@@ -28,22 +28,22 @@ as_err e = Err e
 
 pub returns-then-is_err-clause-further : goal.returns-then-is_err-clause-further
 returns-then-is_err-clause-further g c =
-    let state = g.D.Disk.state in
+    let view = g.D.Disk.view in
     let answers = g.L.Law.answers in
     let device = c.self.inside.device in
     let x : List Submitted = c.args.group.items in
-    subst (λ (z : Keeping g.row.D.Denot). g.D.Disk.is_lawful z.device → z.broken ≡ false → AdvancesSince answers z.plan z.standing x (last_epoch z.standing) (state z.device) (state device)) c.self.view_is
+    subst (λ (z : Keeping g.row.D.Denot). (g.D.Disk.view z.device).lawful → z.broken ≡ false → AdvancesSince answers z.plan z.standing x (last_epoch z.standing) (view z.device).state (view device).state) c.self.view_is
     (λ old whole t f le left. inl left)
 
 pub returns-then-is_err-clause-images : goal.returns-then-is_err-clause-images
 returns-then-is_err-clause-images g c old whole =
-    let state = g.D.Disk.state in
-    by_further g.D.Disk.is_lawful state g.met.D.Disk.only_now g.L.Law.answers c.told_in_parts.ensures.together c.standings_advance.ensures.not_yet c.self.view_is c.self.invariant.2
-    (c.args.group.items) (state c.self.inside.device) old whole (returns-then-is_err-clause-further g c old whole)
+    let view = g.D.Disk.view in
+    by_further g.D.Disk.view g.met.D.Disk.only_now g.L.Law.answers c.told_in_parts.ensures.together c.standings_advance.ensures.not_yet c.self.view_is c.self.invariant.2
+    (c.args.group.items) (view c.self.inside.device).state old whole (returns-then-is_err-clause-further g c old whole)
 
 pub returns-in-Ok-clause-further : goal.returns-in-Ok-clause-further
 returns-in-Ok-clause-further g c =
-    let state = g.D.Disk.state in
+    let view = g.D.Disk.view in
     let answers = g.L.Law.answers in
     let device = c.self.inside.device in
     let plan = c.self.inside.plan in
@@ -62,18 +62,18 @@ returns-in-Ok-clause-further g c =
     let more : Advance (states_by answers plan) (with_more s y) (with_more s y) = c.standings_advance.ensures.submitted (tree_of plan) s y in
     let holds : Holds (with_more s y) (last_epoch s) = c.standings_advance.ensures.holds s (last_epoch s) y (omega arith) in
     let old_k = c.args.self.now in
-    subst (λ (l : List Submitted). g.D.Disk.is_lawful old_k.device → old_k.broken ≡ false → AdvancesSince answers old_k.plan old_k.standing l (last_epoch old_k.standing) (state old_k.device) (state c.submit_group.new.device)) same
-    (subst (λ (z : Keeping g.row.D.Denot). g.D.Disk.is_lawful z.device → z.broken ≡ false → AdvancesSince answers z.plan z.standing y (last_epoch z.standing) (state z.device) (state c.submit_group.new.device)) c.self.view_is
+    subst (λ (l : List Submitted). (g.D.Disk.view old_k.device).lawful → old_k.broken ≡ false → AdvancesSince answers old_k.plan old_k.standing l (last_epoch old_k.standing) (view old_k.device).state (view c.submit_group.new.device).state) same
+    (subst (λ (z : Keeping g.row.D.Denot). (g.D.Disk.view z.device).lawful → z.broken ≡ false → AdvancesSince answers z.plan z.standing y (last_epoch z.standing) (view z.device).state (view c.submit_group.new.device).state) c.self.view_is
     (λ old whole.
-    let keeps = keeps_of c.self.inside.broken answers plan head side s (state device) whole (c.self.invariant.2 old) in
-    either answers plan c.told_in_parts.ensures.together head side s y (state device) (state c.submit_group.new.device) side (with_more s y) still more holds
+    let keeps = keeps_of c.self.inside.broken answers plan head side s (view device).state whole (c.self.invariant.2 old) in
+    either answers plan c.told_in_parts.ensures.together head side s y (view device).state (view c.submit_group.new.device).state side (with_more s y) still more holds
     (c.in-Ok.ensures.begun old plan head side s ring room taken.fresh taken.lawful keeps)))
 
 pub returns-in-Ok-clause-images : goal.returns-in-Ok-clause-images
 returns-in-Ok-clause-images g c old whole =
-    let state = g.D.Disk.state in
-    by_further g.D.Disk.is_lawful state g.met.D.Disk.only_now g.L.Law.answers c.told_in_parts.ensures.together c.standings_advance.ensures.not_yet c.self.view_is c.self.invariant.2
-    (c.args.group.items) (state c.submit_group.new.device) old whole (returns-in-Ok-clause-further g c old whole)
+    let view = g.D.Disk.view in
+    by_further g.D.Disk.view g.met.D.Disk.only_now g.L.Law.answers c.told_in_parts.ensures.together c.standings_advance.ensures.not_yet c.self.view_is c.self.invariant.2
+    (c.args.group.items) (view c.submit_group.new.device).state old whole (returns-in-Ok-clause-further g c old whole)
 
 pub words_at-words-requires : goal.words_at-words-requires
 words_at-words-requires g c =
@@ -106,7 +106,7 @@ publish-requires-clause-rises g c =
 
 pub invariant_of-self-in-Ok : goal.invariant_of-self-in-Ok
 invariant_of-self-in-Ok g c =
-    let state = g.D.Disk.state in
+    let view = g.D.Disk.view in
     let answers = g.L.Law.answers in
     let device = c.self.inside.device in
     let plan = c.self.inside.plan in
@@ -126,24 +126,24 @@ invariant_of-self-in-Ok g c =
     let items : c.append.new.queue.items ≡ c.self.inside.submitted.items ++ x = c.append.ensures ∙ ap (λ (l : List Submitted). l ++ x) c.reserve.ensures.items in
     let watch : c.publish.new.watch ≡ published c.self.inside.watch (words_at (with_more s x) c.self.inside.collected) =
     c.publish.ensures ∙ ap (published c.self.inside.watch) (c.words_at-words.ensures ∙ ap (λ (v : List Submitted). words_at (standing_from c.self.inside.checkpoint v) c.self.inside.collected) items) in (
-      subst (λ (n : ℕ). size_of head.shape ≤ n) (sym c.in-Ok.ensures.size) c.self.invariant.0,
+      subst (λ (n : ℕ). size_of head.shape ≤ n) (sym c.in-Ok.ensures.device.size) c.self.invariant.0,
       subst (λ (v : List Submitted). IsKeeping (keeping_of new plan head c.self.inside.checkpoint v c.self.inside.broken c.self.inside.taken c.self.inside.collected c.self.inside.queue.items c.publish.new.watch) answers) (sym items)
           (subst (λ (o : Option View). IsKeeping (keeping_of new plan head c.self.inside.checkpoint (c.self.inside.submitted.items ++ x) c.self.inside.broken c.self.inside.taken c.self.inside.collected c.self.inside.queue.items o) answers) (sym watch)
           (submitted answers k new x c.self.invariant.1 at_x.lawful at_x.room at_x.small)),
       λ l.
-          let old = c.in-Ok.ensures.lawful.1 l in
-          let keeps = keeps_of c.self.inside.broken answers plan head side s (state device) taken.whole (c.self.invariant.2 old) in
-          subst (λ (v : List Submitted). HeldWhere c.self.inside.broken answers plan head side (standing_from c.self.inside.checkpoint v) (state new)) (sym items)
-          (held_of c.self.inside.broken answers plan head side (with_more s x) (state new) taken.whole
-          (subst (λ (l : List Submitted). Keeps plan head side (with_more s l) (state new)) same (c.in-Ok.ensures.done old plan head side s ring room taken.fresh taken.lawful keeps))),
+          let old = c.in-Ok.ensures.device.lawful.1 l in
+          let keeps = keeps_of c.self.inside.broken answers plan head side s (view device).state taken.whole (c.self.invariant.2 old) in
+          subst (λ (v : List Submitted). HeldWhere c.self.inside.broken answers plan head side (standing_from c.self.inside.checkpoint v) (view new).state) (sym items)
+          (held_of c.self.inside.broken answers plan head side (with_more s x) (view new).state taken.whole
+          (subst (λ (l : List Submitted). Keeps plan head side (with_more s l) (view new).state) same (c.in-Ok.ensures.done old plan head side s ring room taken.fresh taken.lawful keeps))),
       c.greatest_request-self-inside.ensures ∙ (ap (λ (l : List Submitted). greatest c.self.inside.last_request l) c.deref-in-Ok.ensures.value ∙ (ap (λ (n : ℕ). greatest n x) c.self.invariant.3
           ∙ (sym (greatest_more c.self.inside.checkpoint.last c.self.inside.submitted.items x) ∙ ap (greatest c.self.inside.checkpoint.last) (sym items)))),
-      λ l. none_beyond c.self.inside.broken plan k.base (state new) taken.whole,
+      λ l. none_beyond c.self.inside.broken plan k.base (view new).state taken.whole,
     )
 
 pub returns-in-Device-clause-further : goal.returns-in-Device-clause-further
 returns-in-Device-clause-further g c =
-    let state = g.D.Disk.state in
+    let view = g.D.Disk.view in
     let answers = g.L.Law.answers in
     let device = c.self.inside.device in
     let plan = c.self.inside.plan in
@@ -162,22 +162,22 @@ returns-in-Device-clause-further g c =
     let more : Advance (states_by answers plan) (with_more s y) (with_more s y) = c.standings_advance.ensures.submitted (tree_of plan) s y in
     let holds : Holds (with_more s y) (last_epoch s) = c.standings_advance.ensures.holds s (last_epoch s) y (omega arith) in
     let old_k = c.args.self.now in
-    subst (λ (l : List Submitted). g.D.Disk.is_lawful old_k.device → old_k.broken ≡ false → AdvancesSince answers old_k.plan old_k.standing l (last_epoch old_k.standing) (state old_k.device) (state c.submit_group.new.device)) same
-    (subst (λ (z : Keeping g.row.D.Denot). g.D.Disk.is_lawful z.device → z.broken ≡ false → AdvancesSince answers z.plan z.standing y (last_epoch z.standing) (state z.device) (state c.submit_group.new.device)) c.self.view_is
+    subst (λ (l : List Submitted). (g.D.Disk.view old_k.device).lawful → old_k.broken ≡ false → AdvancesSince answers old_k.plan old_k.standing l (last_epoch old_k.standing) (view old_k.device).state (view c.submit_group.new.device).state) same
+    (subst (λ (z : Keeping g.row.D.Denot). (g.D.Disk.view z.device).lawful → z.broken ≡ false → AdvancesSince answers z.plan z.standing y (last_epoch z.standing) (view z.device).state (view c.submit_group.new.device).state) c.self.view_is
     (λ old whole.
-    let keeps = keeps_of c.self.inside.broken answers plan head side s (state device) whole (c.self.invariant.2 old) in
-    either answers plan c.told_in_parts.ensures.together head side s y (state device) (state c.submit_group.new.device) side (with_more s y) still more holds
+    let keeps = keeps_of c.self.inside.broken answers plan head side s (view device).state whole (c.self.invariant.2 old) in
+    either answers plan c.told_in_parts.ensures.together head side s y (view device).state (view c.submit_group.new.device).state side (with_more s y) still more holds
     (c.in-Err.ensures.begun old plan head side s ring room taken.fresh taken.lawful keeps)))
 
 pub returns-in-Device-clause-images : goal.returns-in-Device-clause-images
 returns-in-Device-clause-images g c old whole =
-    let state = g.D.Disk.state in
-    by_further g.D.Disk.is_lawful state g.met.D.Disk.only_now g.L.Law.answers c.told_in_parts.ensures.together c.standings_advance.ensures.not_yet c.self.view_is c.self.invariant.2
-    (c.args.group.items) (state c.submit_group.new.device) old whole (returns-in-Device-clause-further g c old whole)
+    let view = g.D.Disk.view in
+    by_further g.D.Disk.view g.met.D.Disk.only_now g.L.Law.answers c.told_in_parts.ensures.together c.standings_advance.ensures.not_yet c.self.view_is c.self.invariant.2
+    (c.args.group.items) (view c.submit_group.new.device).state old whole (returns-in-Device-clause-further g c old whole)
 
 pub returns-in-Memory-clause-further : goal.returns-in-Memory-clause-further
 returns-in-Memory-clause-further g c =
-    let state = g.D.Disk.state in
+    let view = g.D.Disk.view in
     let answers = g.L.Law.answers in
     let device = c.self.inside.device in
     let plan = c.self.inside.plan in
@@ -196,22 +196,22 @@ returns-in-Memory-clause-further g c =
     let more : Advance (states_by answers plan) (with_more s y) (with_more s y) = c.standings_advance.ensures.submitted (tree_of plan) s y in
     let holds : Holds (with_more s y) (last_epoch s) = c.standings_advance.ensures.holds s (last_epoch s) y (omega arith) in
     let old_k = c.args.self.now in
-    subst (λ (l : List Submitted). g.D.Disk.is_lawful old_k.device → old_k.broken ≡ false → AdvancesSince answers old_k.plan old_k.standing l (last_epoch old_k.standing) (state old_k.device) (state c.submit_group.new.device)) same
-    (subst (λ (z : Keeping g.row.D.Denot). g.D.Disk.is_lawful z.device → z.broken ≡ false → AdvancesSince answers z.plan z.standing y (last_epoch z.standing) (state z.device) (state c.submit_group.new.device)) c.self.view_is
+    subst (λ (l : List Submitted). (g.D.Disk.view old_k.device).lawful → old_k.broken ≡ false → AdvancesSince answers old_k.plan old_k.standing l (last_epoch old_k.standing) (view old_k.device).state (view c.submit_group.new.device).state) same
+    (subst (λ (z : Keeping g.row.D.Denot). (g.D.Disk.view z.device).lawful → z.broken ≡ false → AdvancesSince answers z.plan z.standing y (last_epoch z.standing) (view z.device).state (view c.submit_group.new.device).state) c.self.view_is
     (λ old whole.
-    let keeps = keeps_of c.self.inside.broken answers plan head side s (state device) whole (c.self.invariant.2 old) in
-    either answers plan c.told_in_parts.ensures.together head side s y (state device) (state c.submit_group.new.device) side (with_more s y) still more holds
+    let keeps = keeps_of c.self.inside.broken answers plan head side s (view device).state whole (c.self.invariant.2 old) in
+    either answers plan c.told_in_parts.ensures.together head side s y (view device).state (view c.submit_group.new.device).state side (with_more s y) still more holds
     (c.in-Err.ensures.begun old plan head side s ring room taken.fresh taken.lawful keeps)))
 
 pub returns-in-Memory-clause-images : goal.returns-in-Memory-clause-images
 returns-in-Memory-clause-images g c old whole =
-    let state = g.D.Disk.state in
-    by_further g.D.Disk.is_lawful state g.met.D.Disk.only_now g.L.Law.answers c.told_in_parts.ensures.together c.standings_advance.ensures.not_yet c.self.view_is c.self.invariant.2
-    (c.args.group.items) (state c.submit_group.new.device) old whole (returns-in-Memory-clause-further g c old whole)
+    let view = g.D.Disk.view in
+    by_further g.D.Disk.view g.met.D.Disk.only_now g.L.Law.answers c.told_in_parts.ensures.together c.standings_advance.ensures.not_yet c.self.view_is c.self.invariant.2
+    (c.args.group.items) (view c.submit_group.new.device).state old whole (returns-in-Memory-clause-further g c old whole)
 
 pub invariant_of-self-in-Device : goal.invariant_of-self-in-Device
 invariant_of-self-in-Device g c =
-    let state = g.D.Disk.state in
+    let view = g.D.Disk.view in
     let answers = g.L.Law.answers in
     let device = c.self.inside.device in
     let plan = c.self.inside.plan in
@@ -230,32 +230,32 @@ invariant_of-self-in-Device g c =
     let more : Advance (states_by answers plan) (with_more s y) (with_more s y) = c.standings_advance.ensures.submitted (tree_of plan) s y in
     let holds : Holds (with_more s y) (last_epoch s) = c.standings_advance.ensures.holds s (last_epoch s) y (omega arith) in
     let new = c.submit_group.new.device in (
-      subst (λ (n : ℕ). size_of head.shape ≤ n) (sym c.in-Err.ensures.size) c.self.invariant.0,
+      subst (λ (n : ℕ). size_of head.shape ≤ n) (sym c.in-Err.ensures.device.size) c.self.invariant.0,
       subst (λ (v : List Submitted). IsKeeping (keeping_of new plan head c.self.inside.checkpoint v true c.self.inside.taken c.self.inside.collected c.self.inside.queue.items c.self.inside.watch) answers) (sym c.reserve.ensures.items)
           (elsewhere answers k new true c.self.invariant.1),
       λ l.
-          let old = c.in-Err.ensures.lawful.1 l in
-          let keeps = keeps_of c.self.inside.broken answers plan head side s (state device) taken.whole (c.self.invariant.2 old) in
-          let later : (state device).moment ≤ (state new).moment = c.in-Err.ensures.later old keeps.durable in
-          subst (λ (v : List Submitted). HeldWhere true answers plan head side (standing_from c.self.inside.checkpoint v) (state new)) (sym c.reserve.ensures.items)
-          (held answers plan head side s y (state device).moment (state new) (λ d now. g.met.D.Disk.counts_now new (state device).moment d l later now)
-          (from_start answers plan c.told_in_parts.ensures.together head side s y (state device) (state new) (λ d. g.met.D.Disk.only_now device d old) still keeps
-          (either answers plan c.told_in_parts.ensures.together head side s y (state device) (state new) side (with_more s y) still more holds
+          let old = c.in-Err.ensures.device.lawful.1 l in
+          let keeps = keeps_of c.self.inside.broken answers plan head side s (view device).state taken.whole (c.self.invariant.2 old) in
+          let later : (view device).state.moment ≤ (view new).state.moment = c.in-Err.ensures.later old keeps.durable in
+          subst (λ (v : List Submitted). HeldWhere true answers plan head side (standing_from c.self.inside.checkpoint v) (view new).state) (sym c.reserve.ensures.items)
+          (held answers plan head side s y (view device).state.moment (view new).state (λ d now. g.met.D.Disk.counts_now new (view device).state.moment d l later now)
+          (from_start answers plan c.told_in_parts.ensures.together head side s y (view device).state (view new).state (λ d. g.met.D.Disk.only_now device d old) still keeps
+          (either answers plan c.told_in_parts.ensures.together head side s y (view device).state (view new).state side (with_more s y) still more holds
           (c.in-Err.ensures.begun old plan head side s ring room taken.fresh taken.lawful keeps)))),
       subst (λ (v : List Submitted). c.self.inside.last_request ≡ greatest c.self.inside.checkpoint.last v) (sym c.reserve.ensures.items) c.self.invariant.3,
       λ l.
-          let old = c.in-Err.ensures.lawful.1 l in
-          let keeps = keeps_of c.self.inside.broken answers plan head side s (state device) taken.whole (c.self.invariant.2 old) in
-          let later : (state device).moment ≤ (state new).moment = c.in-Err.ensures.later old keeps.durable in
-          keeps_to plan c.told_in_parts.ensures.one_answer k.base s (with_more s y) (state device).moment (state new) (λ d now. g.met.D.Disk.counts_now new (state device).moment d l later now)
-          (either_told plan c.told_in_parts.ensures.together head head side side s (with_more s y) (state device) (state new) (λ d. g.met.D.Disk.only_now device d old) keeps
+          let old = c.in-Err.ensures.device.lawful.1 l in
+          let keeps = keeps_of c.self.inside.broken answers plan head side s (view device).state taken.whole (c.self.invariant.2 old) in
+          let later : (view device).state.moment ≤ (view new).state.moment = c.in-Err.ensures.later old keeps.durable in
+          keeps_to plan c.told_in_parts.ensures.one_answer k.base s (with_more s y) (view device).state.moment (view new).state (λ d now. g.met.D.Disk.counts_now new (view device).state.moment d l later now)
+          (either_told plan c.told_in_parts.ensures.together head head side side s (with_more s y) (view device).state (view new).state (λ d. g.met.D.Disk.only_now device d old) keeps
           (c.in-Err.ensures.begun old plan head side s ring room taken.fresh taken.lawful keeps))
           c.self.invariant.1.from_checkpoint c.self.invariant.1.from_checkpoint,
     )
 
 pub invariant_of-self-in-Memory : goal.invariant_of-self-in-Memory
 invariant_of-self-in-Memory g c =
-    let state = g.D.Disk.state in
+    let view = g.D.Disk.view in
     let answers = g.L.Law.answers in
     let device = c.self.inside.device in
     let plan = c.self.inside.plan in
@@ -268,28 +268,28 @@ invariant_of-self-in-Memory g c =
     let k = keeping_of device plan head c.self.inside.checkpoint c.self.inside.submitted.items c.self.inside.broken c.self.inside.taken c.self.inside.collected c.self.inside.queue.items c.self.inside.watch in
     let taken : MayCome k y = may_come_in c.self.view_is same (record { some = c.requires.some; whole = c.requires.whole; lawful = c.requires.lawful; few = c.requires.few; small = c.requires.small; room = c.requires.room; fresh = c.requires.fresh }) in
     let new = c.submit_group.new.device in (
-      subst (λ (n : ℕ). size_of head.shape ≤ n) (sym c.in-Err.ensures.size) c.self.invariant.0,
+      subst (λ (n : ℕ). size_of head.shape ≤ n) (sym c.in-Err.ensures.device.size) c.self.invariant.0,
       subst (λ (v : List Submitted). IsKeeping (keeping_of new plan head c.self.inside.checkpoint v c.self.inside.broken c.self.inside.taken c.self.inside.collected c.self.inside.queue.items c.self.inside.watch) answers) (sym c.reserve.ensures.items)
           (elsewhere answers k new c.self.inside.broken c.self.invariant.1),
       λ l.
-          let old = c.in-Err.ensures.lawful.1 l in
-          let keeps = keeps_of c.self.inside.broken answers plan head side s (state device) taken.whole (c.self.invariant.2 old) in
+          let old = c.in-Err.ensures.device.lawful.1 l in
+          let keeps = keeps_of c.self.inside.broken answers plan head side s (view device).state taken.whole (c.self.invariant.2 old) in
           let memory : c.in-Err.refusal ≡ JournalError.Memory = c.in-Memory.is in
-          subst (λ (v : List Submitted). HeldWhere c.self.inside.broken answers plan head side (standing_from c.self.inside.checkpoint v) (state new)) (sym c.reserve.ensures.items)
-          (held_of c.self.inside.broken answers plan head side s (state new) taken.whole (c.in-Err.ensures.kept (ap as_err memory) old plan head side s keeps)),
+          subst (λ (v : List Submitted). HeldWhere c.self.inside.broken answers plan head side (standing_from c.self.inside.checkpoint v) (view new).state) (sym c.reserve.ensures.items)
+          (held_of c.self.inside.broken answers plan head side s (view new).state taken.whole (c.in-Err.ensures.kept (ap as_err memory) old plan head side s keeps)),
       subst (λ (v : List Submitted). c.self.inside.last_request ≡ greatest c.self.inside.checkpoint.last v) (sym c.reserve.ensures.items) c.self.invariant.3,
-      λ l. none_beyond c.self.inside.broken plan k.base (state new) taken.whole,
+      λ l. none_beyond c.self.inside.broken plan k.base (view new).state taken.whole,
     )
 
 pub returns-in-Memory-clause-unwritten : goal.returns-in-Memory-clause-unwritten
 returns-in-Memory-clause-unwritten g c is =
     let memory : c.in-Err.refusal ≡ JournalError.Memory = c.in-Memory.is in
-    subst (λ (z : Keeping g.row.D.Denot). g.D.Disk.is_lawful z.device → CrashSafe Unchanged (g.D.Disk.state z.device) (g.D.Disk.state c.submit_group.new.device)) c.self.view_is
+    subst (λ (z : Keeping g.row.D.Denot). (g.D.Disk.view z.device).lawful → CrashSafe Unchanged (g.D.Disk.view z.device).state (g.D.Disk.view c.submit_group.new.device).state) c.self.view_is
     (λ old. c.in-Err.ensures.unwritten (ap as_err memory) old)
 
 pub returns-in-Ok-clause-later : goal.returns-in-Ok-clause-later
 returns-in-Ok-clause-later g c =
-    let state = g.D.Disk.state in
+    let view = g.D.Disk.view in
     let answers = g.L.Law.answers in
     let device = c.self.inside.device in
     let plan = c.self.inside.plan in
@@ -297,12 +297,12 @@ returns-in-Ok-clause-later g c =
     let s = standing_from c.self.inside.checkpoint c.self.inside.submitted.items in
     let side = c.self.inside.checkpoint.slot in
     let whole : c.self.inside.broken ≡ false = ap (λ (z : Keeping g.row.D.Denot). z.broken) c.self.view_is ∙ c.requires.whole in
-    subst (λ (z : Keeping g.row.D.Denot). g.D.Disk.is_lawful z.device → (state z.device).moment ≤ (state c.submit_group.new.device).moment) c.self.view_is
-    (λ old. c.in-Ok.ensures.later old (keeps_of c.self.inside.broken answers plan head side s (state device) whole (c.self.invariant.2 old)).durable)
+    subst (λ (z : Keeping g.row.D.Denot). (g.D.Disk.view z.device).lawful → (view z.device).state.moment ≤ (view c.submit_group.new.device).state.moment) c.self.view_is
+    (λ old. c.in-Ok.ensures.later old (keeps_of c.self.inside.broken answers plan head side s (view device).state whole (c.self.invariant.2 old)).durable)
 
 pub returns-in-Device-clause-later : goal.returns-in-Device-clause-later
 returns-in-Device-clause-later g c =
-    let state = g.D.Disk.state in
+    let view = g.D.Disk.view in
     let answers = g.L.Law.answers in
     let device = c.self.inside.device in
     let plan = c.self.inside.plan in
@@ -310,20 +310,20 @@ returns-in-Device-clause-later g c =
     let s = standing_from c.self.inside.checkpoint c.self.inside.submitted.items in
     let side = c.self.inside.checkpoint.slot in
     let whole : c.self.inside.broken ≡ false = ap (λ (z : Keeping g.row.D.Denot). z.broken) c.self.view_is ∙ c.requires.whole in
-    subst (λ (z : Keeping g.row.D.Denot). g.D.Disk.is_lawful z.device → (state z.device).moment ≤ (state c.submit_group.new.device).moment) c.self.view_is
-    (λ old. c.in-Err.ensures.later old (keeps_of c.self.inside.broken answers plan head side s (state device) whole (c.self.invariant.2 old)).durable)
+    subst (λ (z : Keeping g.row.D.Denot). (g.D.Disk.view z.device).lawful → (view z.device).state.moment ≤ (view c.submit_group.new.device).state.moment) c.self.view_is
+    (λ old. c.in-Err.ensures.later old (keeps_of c.self.inside.broken answers plan head side s (view device).state whole (c.self.invariant.2 old)).durable)
 
 pub returns-then-is_err-clause-nothing : goal.returns-then-is_err-clause-nothing
 returns-then-is_err-clause-nothing g c =
-    let state = g.D.Disk.state in
+    let view = g.D.Disk.view in
     let answers = g.L.Law.answers in
     let device = c.self.inside.device in
-    inr (subst (λ (z : Keeping g.row.D.Denot). g.D.Disk.is_lawful z.device → z.broken ≡ false → AdvancesSince answers z.plan z.standing [] (last_epoch z.standing) (state z.device) (state device)) c.self.view_is
+    inr (subst (λ (z : Keeping g.row.D.Denot). (g.D.Disk.view z.device).lawful → z.broken ≡ false → AdvancesSince answers z.plan z.standing [] (last_epoch z.standing) (view z.device).state (view device).state) c.self.view_is
     (λ old whole t f le left. inl left))
 
 pub returns-in-Memory-clause-nothing : goal.returns-in-Memory-clause-nothing
 returns-in-Memory-clause-nothing g c =
-    let state = g.D.Disk.state in
+    let view = g.D.Disk.view in
     let answers = g.L.Law.answers in
     let device = c.self.inside.device in
     let plan = c.self.inside.plan in
@@ -332,10 +332,10 @@ returns-in-Memory-clause-nothing g c =
     let side = c.self.inside.checkpoint.slot in
     let memory : c.in-Err.refusal ≡ JournalError.Memory = c.in-Memory.is in
     let still : Advance (states_by answers plan) (with_more s []) s = c.standings_advance.ensures.not_yet (tree_of plan) s [] in
-    inr (subst (λ (z : Keeping g.row.D.Denot). g.D.Disk.is_lawful z.device → z.broken ≡ false → AdvancesSince answers z.plan z.standing [] (last_epoch z.standing) (state z.device) (state c.submit_group.new.device)) c.self.view_is
+    inr (subst (λ (z : Keeping g.row.D.Denot). (g.D.Disk.view z.device).lawful → z.broken ≡ false → AdvancesSince answers z.plan z.standing [] (last_epoch z.standing) (view z.device).state (view c.submit_group.new.device).state) c.self.view_is
     (λ old whole.
-    let keeps = keeps_of c.self.inside.broken answers plan head side s (state device) whole (c.self.invariant.2 old) in
-    unwritten answers plan c.told_in_parts.ensures.together head side s [] (state device) (state c.submit_group.new.device) (c.in-Err.ensures.unwritten (ap as_err memory) old) still keeps))
+    let keeps = keeps_of c.self.inside.broken answers plan head side s (view device).state whole (c.self.invariant.2 old) in
+    unwritten answers plan c.told_in_parts.ensures.together head side s [] (view device).state (view c.submit_group.new.device).state (c.in-Err.ensures.unwritten (ap as_err memory) old) still keeps))
 
 pub returns-in-Memory-clause-unchanged : goal.returns-in-Memory-clause-unchanged
 returns-in-Memory-clause-unchanged g c = search rules
@@ -356,7 +356,7 @@ returns-in-Ok-clause-last_request g c =
 
 pub returns-in-Ok-clause-all_or_none : goal.returns-in-Ok-clause-all_or_none
 returns-in-Ok-clause-all_or_none g c =
-    let state = g.D.Disk.state in
+    let view = g.D.Disk.view in
     let device = c.self.inside.device in
     let plan = c.self.inside.plan in
     let head = c.self.inside.head in
@@ -370,16 +370,16 @@ returns-in-Ok-clause-all_or_none g c =
     let epoch : c.last_epoch-first.result + 1 ≡ last_epoch s + 1 = ap (λ (n : ℕ). n + 1) (c.last_epoch-first.ensures ∙ sym (ap (λ (z : Keeping g.row.D.Denot). last_epoch z.standing) c.self.view_is)) in
     let ring : c.ring_of-journal.result ≡ ring_of head.shape s.epoch = c.ring_of-journal.ensures.ring in
     let room : HasRoomFor head.shape s (c.last_epoch-first.result + 1) (length y) = has_room k y (c.last_epoch-first.result + 1) taken epoch in
-    subst (λ (z : Keeping g.row.D.Denot). g.D.Disk.is_lawful z.device → z.broken ≡ false → AllOrNone z.plan z.standing x (state z.device).moment (state c.submit_group.new.device)) c.self.view_is
-    (subst (λ (l : List Submitted). g.D.Disk.is_lawful device → c.self.inside.broken ≡ false → AllOrNone plan s l (state device).moment (state c.submit_group.new.device)) same
+    subst (λ (z : Keeping g.row.D.Denot). (g.D.Disk.view z.device).lawful → z.broken ≡ false → AllOrNone z.plan z.standing x (view z.device).state.moment (view c.submit_group.new.device).state) c.self.view_is
+    (subst (λ (l : List Submitted). (g.D.Disk.view device).lawful → c.self.inside.broken ≡ false → AllOrNone plan s l (view device).state.moment (view c.submit_group.new.device).state) same
     (λ old whole.
-    let keeps = keeps_of c.self.inside.broken g.L.Law.answers plan head side s (state device) whole (c.self.invariant.2 old) in
-    one_or_other plan c.told_in_parts.ensures.together head side s (with_more s y) (state device) (state c.submit_group.new.device) (λ d. g.met.D.Disk.only_now device d old) keeps
+    let keeps = keeps_of c.self.inside.broken g.L.Law.answers plan head side s (view device).state whole (c.self.invariant.2 old) in
+    one_or_other plan c.told_in_parts.ensures.together head side s (with_more s y) (view device).state (view c.submit_group.new.device).state (λ d. g.met.D.Disk.only_now device d old) keeps
     (c.in-Ok.ensures.begun old plan head side s ring room taken.fresh taken.lawful keeps)))
 
 pub returns-in-Device-clause-all_or_none : goal.returns-in-Device-clause-all_or_none
 returns-in-Device-clause-all_or_none g c =
-    let state = g.D.Disk.state in
+    let view = g.D.Disk.view in
     let device = c.self.inside.device in
     let plan = c.self.inside.plan in
     let head = c.self.inside.head in
@@ -393,16 +393,16 @@ returns-in-Device-clause-all_or_none g c =
     let epoch : c.last_epoch-first.result + 1 ≡ last_epoch s + 1 = ap (λ (n : ℕ). n + 1) (c.last_epoch-first.ensures ∙ sym (ap (λ (z : Keeping g.row.D.Denot). last_epoch z.standing) c.self.view_is)) in
     let ring : c.ring_of-journal.result ≡ ring_of head.shape s.epoch = c.ring_of-journal.ensures.ring in
     let room : HasRoomFor head.shape s (c.last_epoch-first.result + 1) (length y) = has_room k y (c.last_epoch-first.result + 1) taken epoch in
-    subst (λ (z : Keeping g.row.D.Denot). g.D.Disk.is_lawful z.device → z.broken ≡ false → AllOrNone z.plan z.standing x (state z.device).moment (state c.submit_group.new.device)) c.self.view_is
-    (subst (λ (l : List Submitted). g.D.Disk.is_lawful device → c.self.inside.broken ≡ false → AllOrNone plan s l (state device).moment (state c.submit_group.new.device)) same
+    subst (λ (z : Keeping g.row.D.Denot). (g.D.Disk.view z.device).lawful → z.broken ≡ false → AllOrNone z.plan z.standing x (view z.device).state.moment (view c.submit_group.new.device).state) c.self.view_is
+    (subst (λ (l : List Submitted). (g.D.Disk.view device).lawful → c.self.inside.broken ≡ false → AllOrNone plan s l (view device).state.moment (view c.submit_group.new.device).state) same
     (λ old whole.
-    let keeps = keeps_of c.self.inside.broken g.L.Law.answers plan head side s (state device) whole (c.self.invariant.2 old) in
-    one_or_other plan c.told_in_parts.ensures.together head side s (with_more s y) (state device) (state c.submit_group.new.device) (λ d. g.met.D.Disk.only_now device d old) keeps
+    let keeps = keeps_of c.self.inside.broken g.L.Law.answers plan head side s (view device).state whole (c.self.invariant.2 old) in
+    one_or_other plan c.told_in_parts.ensures.together head side s (with_more s y) (view device).state (view c.submit_group.new.device).state (λ d. g.met.D.Disk.only_now device d old) keeps
     (c.in-Err.ensures.begun old plan head side s ring room taken.fresh taken.lawful keeps)))
 
 pub returns-in-Memory-clause-all_or_none : goal.returns-in-Memory-clause-all_or_none
 returns-in-Memory-clause-all_or_none g c =
-    let state = g.D.Disk.state in
+    let view = g.D.Disk.view in
     let device = c.self.inside.device in
     let plan = c.self.inside.plan in
     let head = c.self.inside.head in
@@ -416,36 +416,36 @@ returns-in-Memory-clause-all_or_none g c =
     let epoch : c.last_epoch-first.result + 1 ≡ last_epoch s + 1 = ap (λ (n : ℕ). n + 1) (c.last_epoch-first.ensures ∙ sym (ap (λ (z : Keeping g.row.D.Denot). last_epoch z.standing) c.self.view_is)) in
     let ring : c.ring_of-journal.result ≡ ring_of head.shape s.epoch = c.ring_of-journal.ensures.ring in
     let room : HasRoomFor head.shape s (c.last_epoch-first.result + 1) (length y) = has_room k y (c.last_epoch-first.result + 1) taken epoch in
-    subst (λ (z : Keeping g.row.D.Denot). g.D.Disk.is_lawful z.device → z.broken ≡ false → AllOrNone z.plan z.standing x (state z.device).moment (state c.submit_group.new.device)) c.self.view_is
-    (subst (λ (l : List Submitted). g.D.Disk.is_lawful device → c.self.inside.broken ≡ false → AllOrNone plan s l (state device).moment (state c.submit_group.new.device)) same
+    subst (λ (z : Keeping g.row.D.Denot). (g.D.Disk.view z.device).lawful → z.broken ≡ false → AllOrNone z.plan z.standing x (view z.device).state.moment (view c.submit_group.new.device).state) c.self.view_is
+    (subst (λ (l : List Submitted). (g.D.Disk.view device).lawful → c.self.inside.broken ≡ false → AllOrNone plan s l (view device).state.moment (view c.submit_group.new.device).state) same
     (λ old whole.
-    let keeps = keeps_of c.self.inside.broken g.L.Law.answers plan head side s (state device) whole (c.self.invariant.2 old) in
-    one_or_other plan c.told_in_parts.ensures.together head side s (with_more s y) (state device) (state c.submit_group.new.device) (λ d. g.met.D.Disk.only_now device d old) keeps
+    let keeps = keeps_of c.self.inside.broken g.L.Law.answers plan head side s (view device).state whole (c.self.invariant.2 old) in
+    one_or_other plan c.told_in_parts.ensures.together head side s (with_more s y) (view device).state (view c.submit_group.new.device).state (λ d. g.met.D.Disk.only_now device d old) keeps
     (c.in-Err.ensures.begun old plan head side s ring room taken.fresh taken.lawful keeps)))
 
 pub returns-then-is_err-clause-all_or_none : goal.returns-then-is_err-clause-all_or_none
 returns-then-is_err-clause-all_or_none g c =
-    let state = g.D.Disk.state in
+    let view = g.D.Disk.view in
     let device = c.self.inside.device in
     let plan = c.self.inside.plan in
     let head = c.self.inside.head in
     let s = standing_from c.self.inside.checkpoint c.self.inside.submitted.items in
     let side = c.self.inside.checkpoint.slot in
-    subst (λ (z : Keeping g.row.D.Denot). g.D.Disk.is_lawful z.device → z.broken ≡ false → AllOrNone z.plan z.standing c.args.group.items (state z.device).moment (state device)) c.self.view_is
+    subst (λ (z : Keeping g.row.D.Denot). (g.D.Disk.view z.device).lawful → z.broken ≡ false → AllOrNone z.plan z.standing c.args.group.items (view z.device).state.moment (view device).state) c.self.view_is
     (λ old whole i left.
-    let keeps = keeps_of c.self.inside.broken g.L.Law.answers plan head side s (state device) whole (c.self.invariant.2 old) in
-    inl (none_since plan c.told_in_parts.ensures.together head side s (state device) (λ d. g.met.D.Disk.only_now device d old) keeps i left))
+    let keeps = keeps_of c.self.inside.broken g.L.Law.answers plan head side s (view device).state whole (c.self.invariant.2 old) in
+    inl (none_since plan c.told_in_parts.ensures.together head side s (view device).state (λ d. g.met.D.Disk.only_now device d old) keeps i left))
 
 pub returns-then-is_err-clause-short : goal.returns-then-is_err-clause-short
 returns-then-is_err-clause-short g c =
-    let state = g.D.Disk.state in
+    let view = g.D.Disk.view in
     let device = c.self.inside.device in
-    subst (λ (z : Keeping g.row.D.Denot). g.D.Disk.is_lawful z.device → KeepsSince z.plan z.base (state z.device) (state device)) c.self.view_is
+    subst (λ (z : Keeping g.row.D.Denot). (g.D.Disk.view z.device).lawful → KeepsSince z.plan z.base (view z.device).state (view device).state) c.self.view_is
     (λ old t i le left. inl left)
 
 pub returns-in-Ok-clause-short : goal.returns-in-Ok-clause-short
 returns-in-Ok-clause-short g c =
-    let state = g.D.Disk.state in
+    let view = g.D.Disk.view in
     let device = c.self.inside.device in
     let plan = c.self.inside.plan in
     let head = c.self.inside.head in
@@ -458,15 +458,15 @@ returns-in-Ok-clause-short g c =
     let ring : c.ring_of-journal.result ≡ ring_of head.shape s.epoch = c.ring_of-journal.ensures.ring in
     let room : HasRoomFor head.shape s (c.last_epoch-first.result + 1) (length y) = has_room k y (c.last_epoch-first.result + 1) taken epoch in
     let low = c.self.invariant.1.from_checkpoint in
-    subst (λ (z : Keeping g.row.D.Denot). g.D.Disk.is_lawful z.device → KeepsSince z.plan z.base (state z.device) (state c.submit_group.new.device)) c.self.view_is
+    subst (λ (z : Keeping g.row.D.Denot). (g.D.Disk.view z.device).lawful → KeepsSince z.plan z.base (view z.device).state (view c.submit_group.new.device).state) c.self.view_is
     (λ old.
-    let keeps = keeps_of c.self.inside.broken g.L.Law.answers plan head side s (state device) taken.whole (c.self.invariant.2 old) in
-    keeps_since plan c.told_in_parts.ensures.one_answer k.base c.told_in_parts.ensures.together head head side side s (with_more s y) (state device) (state c.submit_group.new.device) low low
+    let keeps = keeps_of c.self.inside.broken g.L.Law.answers plan head side s (view device).state taken.whole (c.self.invariant.2 old) in
+    keeps_since plan c.told_in_parts.ensures.one_answer k.base c.told_in_parts.ensures.together head head side side s (with_more s y) (view device).state (view c.submit_group.new.device).state low low
     (c.in-Ok.ensures.begun old plan head side s ring room taken.fresh taken.lawful keeps))
 
 pub returns-in-Device-clause-short : goal.returns-in-Device-clause-short
 returns-in-Device-clause-short g c =
-    let state = g.D.Disk.state in
+    let view = g.D.Disk.view in
     let device = c.self.inside.device in
     let plan = c.self.inside.plan in
     let head = c.self.inside.head in
@@ -479,15 +479,15 @@ returns-in-Device-clause-short g c =
     let ring : c.ring_of-journal.result ≡ ring_of head.shape s.epoch = c.ring_of-journal.ensures.ring in
     let room : HasRoomFor head.shape s (c.last_epoch-first.result + 1) (length y) = has_room k y (c.last_epoch-first.result + 1) taken epoch in
     let low = c.self.invariant.1.from_checkpoint in
-    subst (λ (z : Keeping g.row.D.Denot). g.D.Disk.is_lawful z.device → KeepsSince z.plan z.base (state z.device) (state c.submit_group.new.device)) c.self.view_is
+    subst (λ (z : Keeping g.row.D.Denot). (g.D.Disk.view z.device).lawful → KeepsSince z.plan z.base (view z.device).state (view c.submit_group.new.device).state) c.self.view_is
     (λ old.
-    let keeps = keeps_of c.self.inside.broken g.L.Law.answers plan head side s (state device) taken.whole (c.self.invariant.2 old) in
-    keeps_since plan c.told_in_parts.ensures.one_answer k.base c.told_in_parts.ensures.together head head side side s (with_more s y) (state device) (state c.submit_group.new.device) low low
+    let keeps = keeps_of c.self.inside.broken g.L.Law.answers plan head side s (view device).state taken.whole (c.self.invariant.2 old) in
+    keeps_since plan c.told_in_parts.ensures.one_answer k.base c.told_in_parts.ensures.together head head side side s (with_more s y) (view device).state (view c.submit_group.new.device).state low low
     (c.in-Err.ensures.begun old plan head side s ring room taken.fresh taken.lawful keeps))
 
 pub returns-in-Memory-clause-short : goal.returns-in-Memory-clause-short
 returns-in-Memory-clause-short g c =
-    let state = g.D.Disk.state in
+    let view = g.D.Disk.view in
     let device = c.self.inside.device in
     let plan = c.self.inside.plan in
     let head = c.self.inside.head in
@@ -500,8 +500,8 @@ returns-in-Memory-clause-short g c =
     let ring : c.ring_of-journal.result ≡ ring_of head.shape s.epoch = c.ring_of-journal.ensures.ring in
     let room : HasRoomFor head.shape s (c.last_epoch-first.result + 1) (length y) = has_room k y (c.last_epoch-first.result + 1) taken epoch in
     let low = c.self.invariant.1.from_checkpoint in
-    subst (λ (z : Keeping g.row.D.Denot). g.D.Disk.is_lawful z.device → KeepsSince z.plan z.base (state z.device) (state c.submit_group.new.device)) c.self.view_is
+    subst (λ (z : Keeping g.row.D.Denot). (g.D.Disk.view z.device).lawful → KeepsSince z.plan z.base (view z.device).state (view c.submit_group.new.device).state) c.self.view_is
     (λ old.
-    let keeps = keeps_of c.self.inside.broken g.L.Law.answers plan head side s (state device) taken.whole (c.self.invariant.2 old) in
-    keeps_since plan c.told_in_parts.ensures.one_answer k.base c.told_in_parts.ensures.together head head side side s (with_more s y) (state device) (state c.submit_group.new.device) low low
+    let keeps = keeps_of c.self.inside.broken g.L.Law.answers plan head side s (view device).state taken.whole (c.self.invariant.2 old) in
+    keeps_since plan c.told_in_parts.ensures.one_answer k.base c.told_in_parts.ensures.together head head side side s (with_more s y) (view device).state (view c.submit_group.new.device).state low low
     (c.in-Err.ensures.begun old plan head side s ring room taken.fresh taken.lawful keeps))

@@ -1,9 +1,9 @@
 use Rattle.std.proofs.Common.{◌≡◌, ℕ, ◌+◌, ◌-◌, Result, Ok, Err, IfOk, IfErr, List, [], length, take, drop, refl, sym, ap, ◌∙◌, subst, arith}
 use Rattle.std.proofs.lemmas.List.{length-map, append-nil, take-append-drop}
 use Rattle.td_stamp.specs.declared.values.Entry.{Entry}
-use Rattle.td_standing.specs.declared.error.KeeperError.{KeeperError}
+use Rattle.td_store.specs.declared.standing.error.KeeperError.{KeeperError}
 use Rattle.td_machine.specs.State.{HallState}
-use Rattle.td_standing.specs.Standing.{batches_of}
+use Rattle.td_store.specs.standing.Standing.{batches_of}
 use Rattle.td_keeper.specs.Keeping.{Keeping, IsKeeping}
 use Rattle.td_keeper.specs.Halls.{StaysOwn, with_released, lacking}
 use Rattle.td_keeper.proofs.Owning.{stays_at, stays_released}

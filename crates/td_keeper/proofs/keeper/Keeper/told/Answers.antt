@@ -1,8 +1,8 @@
 use Rattle.std.proofs.Common.{rules, ◌≡◌, ◌∙◌, ℕ, ap, ap₂, sym, subst}
 use Rattle.std.proofs.lemmas.List.{take_all}
 use Rattle.td_head.specs.declared.head.Head.{Head}
-use Rattle.td_standing.specs.Standing.{Standing, standing_from}
-use Rattle.td_standing.specs.Read.{MayStand}
+use Rattle.td_store.specs.standing.Standing.{Standing, standing_from}
+use Rattle.td_store.specs.standing.Read.{MayStand}
 use Rattle.td_calls.specs.Answers.{Answers}
 use Rattle.td_keeper.specs.Keeping.{Keeping, IsKeeping}
 use Rattle.td_keeper.proofs.keeper.Keeper.told.Goals as goal

@@ -7,12 +7,12 @@ use Rattle.td_slots.specs.Slot.{are_states}
 use Rattle.td_slots.specs.declared.slots.Slots.{Slots}
 use Rattle.td_slots.specs.declared.error.SlotsError.{SlotsError as AnyError}
 use Rattle.td_journal.specs.Numbers.{greatest}
-use Rattle.td_standing.specs.Standing.{standing_from, last_epoch, last_request, with_more, cut_at}
-use Rattle.td_standing.specs.Stops.{Advance, Holds}
-use Rattle.td_standing.specs.Told.{folds_of, slots_of}
-use Rattle.td_standing.specs.Tells.{IsCut, side_after}
-use Rattle.td_standing.specs.Advanced.{HeldWhere, states_by}
-use Rattle.td_standing.specs.declared.error.KeeperError.TheVariants.{Memory, Device, TooManyKeys}
+use Rattle.td_store.specs.standing.Standing.{standing_from, last_epoch, last_request, with_more, cut_at}
+use Rattle.td_store.specs.standing.Stops.{Advance, Holds}
+use Rattle.td_store.specs.standing.Told.{folds_of, slots_of}
+use Rattle.td_store.specs.standing.Tells.{IsCut, side_after}
+use Rattle.td_store.specs.standing.Advanced.{HeldWhere, states_by}
+use Rattle.td_store.specs.declared.standing.error.KeeperError.TheVariants.{Memory, Device, TooManyKeys}
 use Rattle.td_keeper.specs.declared.keeper.Taken.{Taken}
 use Rattle.td_keeper.specs.Calls.{CrashLeaves}
 use Rattle.td_keeper.specs.Keeping.{Keeping, IsKeeping, keeping_of, base_of, with_checkpoint, published}
@@ -29,7 +29,7 @@ as_err e = Err e
 
 pub invariant_of-self-in-Ok : goal.invariant_of-self-in-Ok
 invariant_of-self-in-Ok g c =
-    let state = g.D.Disk.state in
+    let view = g.D.Disk.view in
     let answers = g.L.Law.answers in
     let device = c.self.inside.device in
     let plan = c.self.inside.plan in
@@ -59,21 +59,21 @@ invariant_of-self-in-Ok g c =
     let now : keeping_of new plan head d v c.self.inside.broken None c.self.inside.collected c.self.inside.queue.items c.publish.new.watch ≡ with_checkpoint k new =
     ap (λ (o : Option View). keeping_of new plan head d v c.self.inside.broken None c.self.inside.collected c.self.inside.queue.items o) (c.publish.ensures ∙ ap (published c.self.inside.watch) c.words_at-words.ensures)
     ∙ as_written device new plan head checkpoint d w v c.self.inside.broken cut c.self.inside.collected c.self.inside.queue.items c.self.inside.watch after c.checkpoint_of.ensures.slot c.checkpoint_of.ensures.epoch (c.checkpoint_of.ensures.last ∙ last) c.checkpoint_of.ensures.states c.drop_first.ensures in (
-      subst (λ (m : ℕ). size_of head.shape ≤ m) (sym c.in-Ok.ensures.size) c.self.invariant.0,
+      subst (λ (m : ℕ). size_of head.shape ≤ m) (sym c.in-Ok.ensures.device.size) c.self.invariant.0,
       subst (λ (t : Option Taken). IsKeeping (keeping_of new plan head d v c.self.inside.broken t c.self.inside.collected c.self.inside.queue.items c.publish.new.watch) answers) (sym none)
           (subst (λ (z : Keeping g.row.D.Denot). IsKeeping z answers) (sym now) (written answers k new is of_folds)),
       λ l.
-          let old = c.in-Ok.ensures.lawful.1 l in
-          let keeps = keeps_of c.self.inside.broken answers plan head side s (state device) c.if-self.false (c.self.invariant.2 old) in
-          subst (λ (z : Keeping g.row.D.Denot). HeldWhere c.self.inside.broken answers plan head z.side z.standing (state new)) (sym now)
-          (held_of c.self.inside.broken answers plan head (side_after side n) (cut_at s n cut.states) (state new) c.if-self.false (c.in-Ok.ensures.done old plan head s n slots epoch last is_a_cut keeps)),
+          let old = c.in-Ok.ensures.device.lawful.1 l in
+          let keeps = keeps_of c.self.inside.broken answers plan head side s (view device).state c.if-self.false (c.self.invariant.2 old) in
+          subst (λ (z : Keeping g.row.D.Denot). HeldWhere c.self.inside.broken answers plan head z.side z.standing (view new).state) (sym now)
+          (held_of c.self.inside.broken answers plan head (side_after side n) (cut_at s n cut.states) (view new).state c.if-self.false (c.in-Ok.ensures.done old plan head s n slots epoch last is_a_cut keeps)),
       c.self.invariant.3 ∙ sym ((λ i. greatest ((c.checkpoint_of.ensures.last ∙ last) i) (c.drop_first.ensures i)) ∙ cut_last s.last n w),
-      λ l. none_beyond c.self.inside.broken plan (base_of d c.take_waiting.new.taken) (state new) c.if-self.false,
+      λ l. none_beyond c.self.inside.broken plan (base_of d c.take_waiting.new.taken) (view new).state c.if-self.false,
     )
 
 pub invariant_of-self-in-Device : goal.invariant_of-self-in-Device
 invariant_of-self-in-Device g c =
-    let state = g.D.Disk.state in
+    let view = g.D.Disk.view in
     let answers = g.L.Law.answers in
     let device = c.self.inside.device in
     let plan = c.self.inside.plan in
@@ -99,23 +99,23 @@ invariant_of-self-in-Device g c =
     let last : c.last_of_first-last.result ≡ greatest s.last (take n w) = c.last_of_first-last.ensures in
     let next : Advance (states_by answers plan) (with_more s []) (cut_at s n cut.states) = advance answers k is (c.standings_advance.ensures.cut (tree_of plan) s n (most answers k is)) in
     let holds : Holds (cut_at s n cut.states) (last_epoch s) = c.standings_advance.ensures.holds_cut s (last_epoch s) n cut.states (most answers k is) (omega arith) in (
-      subst (λ (m : ℕ). size_of head.shape ≤ m) (sym c.in-Err.ensures.size) c.self.invariant.0,
+      subst (λ (m : ℕ). size_of head.shape ≤ m) (sym c.in-Err.ensures.device.size) c.self.invariant.0,
       set_down answers k new true c.waits_after-waits.result is,
       λ l.
-          let old = c.in-Err.ensures.lawful.1 l in
-          let keeps = keeps_of c.self.inside.broken answers plan head side s (state device) c.if-self.false (c.self.invariant.2 old) in
-          let later : (state device).moment ≤ (state new).moment = c.in-Err.ensures.later old keeps.durable in
-          held answers plan head side s [] (state device).moment (state new) (λ d now. g.met.D.Disk.counts_now new (state device).moment d l later now)
-          (from_start answers plan c.told_in_parts.ensures.together head side s [] (state device) (state new) (λ d. g.met.D.Disk.only_now device d old) still keeps
-          (either answers plan c.told_in_parts.ensures.together head side s [] (state device) (state new) (side_after side n) (cut_at s n cut.states) still next holds
+          let old = c.in-Err.ensures.device.lawful.1 l in
+          let keeps = keeps_of c.self.inside.broken answers plan head side s (view device).state c.if-self.false (c.self.invariant.2 old) in
+          let later : (view device).state.moment ≤ (view new).state.moment = c.in-Err.ensures.later old keeps.durable in
+          held answers plan head side s [] (view device).state.moment (view new).state (λ d now. g.met.D.Disk.counts_now new (view device).state.moment d l later now)
+          (from_start answers plan c.told_in_parts.ensures.together head side s [] (view device).state (view new).state (λ d. g.met.D.Disk.only_now device d old) still keeps
+          (either answers plan c.told_in_parts.ensures.together head side s [] (view device).state (view new).state (side_after side n) (cut_at s n cut.states) still next holds
           (c.in-Err.ensures.begun old plan head s n slots epoch last is_a_cut keeps))),
       c.self.invariant.3,
       λ l.
-          let old = c.in-Err.ensures.lawful.1 l in
-          let keeps = keeps_of c.self.inside.broken answers plan head side s (state device) c.if-self.false (c.self.invariant.2 old) in
-          let later : (state device).moment ≤ (state new).moment = c.in-Err.ensures.later old keeps.durable in
-          keeps_to plan c.told_in_parts.ensures.one_answer cut.epoch s (cut_at s n cut.states) (state device).moment (state new) (λ d now. g.met.D.Disk.counts_now new (state device).moment d l later now)
-          (either_told plan c.told_in_parts.ensures.together head head side (side_after side n) s (cut_at s n cut.states) (state device) (state new) (λ d. g.met.D.Disk.only_now device d old) keeps
+          let old = c.in-Err.ensures.device.lawful.1 l in
+          let keeps = keeps_of c.self.inside.broken answers plan head side s (view device).state c.if-self.false (c.self.invariant.2 old) in
+          let later : (view device).state.moment ≤ (view new).state.moment = c.in-Err.ensures.later old keeps.durable in
+          keeps_to plan c.told_in_parts.ensures.one_answer cut.epoch s (cut_at s n cut.states) (view device).state.moment (view new).state (λ d now. g.met.D.Disk.counts_now new (view device).state.moment d l later now)
+          (either_told plan c.told_in_parts.ensures.together head head side (side_after side n) s (cut_at s n cut.states) (view device).state (view new).state (λ d. g.met.D.Disk.only_now device d old) keeps
           (c.in-Err.ensures.begun old plan head s n slots epoch last is_a_cut keeps))
           is.from_checkpoint (omega (arith, epoch)),
     )
@@ -130,12 +130,12 @@ returns-in-Ok-clause-last_request g c =
 
 pub returns-in_default-clause-crash : goal.returns-in_default-clause-crash
 returns-in_default-clause-crash g c old =
-    subst (λ (d : g.row.D.Denot). CrashLeaves g.L.Law.answers [] c.args.self.now (g.D.Disk.state c.args.self.now.device) (g.D.Disk.state d)) (ap (λ (z : Keeping g.row.D.Denot). z.device) (sym c.self.view_is))
-    (leaves_as_it_was g.D.Disk.is_lawful g.D.Disk.state g.met.D.Disk.only_now g.L.Law.answers c.told_in_parts.ensures.together c.standings_advance.ensures.not_yet c.self.view_is c.self.invariant.2 [] old)
+    subst (λ (d : g.row.D.Denot). CrashLeaves g.L.Law.answers [] c.args.self.now (g.D.Disk.view c.args.self.now.device).state (g.D.Disk.view d).state) (ap (λ (z : Keeping g.row.D.Denot). z.device) (sym c.self.view_is))
+    (leaves_as_it_was g.D.Disk.view g.met.D.Disk.only_now g.L.Law.answers c.told_in_parts.ensures.together c.standings_advance.ensures.not_yet c.self.view_is c.self.invariant.2 [] old)
 
 pub returns-in-Ok-clause-crash : goal.returns-in-Ok-clause-crash
 returns-in-Ok-clause-crash g c =
-    let state = g.D.Disk.state in
+    let view = g.D.Disk.view in
     let answers = g.L.Law.answers in
     let device = c.self.inside.device in
     let plan = c.self.inside.plan in
@@ -163,22 +163,22 @@ returns-in-Ok-clause-crash g c =
     let holds : Holds (cut_at s n cut.states) (last_epoch s) = c.standings_advance.ensures.holds_cut s (last_epoch s) n cut.states (most answers k is) (omega arith) in
     let base : base_of checkpoint c.self.inside.taken ≡ cut.epoch = ap (base_of checkpoint) at in
     let together = c.told_in_parts.ensures.together in
-    subst (λ (z : Keeping g.row.D.Denot). g.D.Disk.is_lawful z.device → CrashLeaves answers [] z (state z.device) (state new)) c.self.view_is
+    subst (λ (z : Keeping g.row.D.Denot). (g.D.Disk.view z.device).lawful → CrashLeaves answers [] z (view z.device).state (view new).state) c.self.view_is
     (λ old.
-    let keeps = keeps_of c.self.inside.broken answers plan head side s (state device) c.if-self.false (c.self.invariant.2 old) in
+    let keeps = keeps_of c.self.inside.broken answers plan head side s (view device).state c.if-self.false (c.self.invariant.2 old) in
     let begun = c.in-Ok.ensures.begun old plan head s n slots epoch last is_a_cut keeps in
-    let further = either answers plan together head side s [] (state device) (state new) (side_after side n) (cut_at s n cut.states) still next holds begun in
+    let further = either answers plan together head side s [] (view device).state (view new).state (side_after side n) (cut_at s n cut.states) still next holds begun in
     record {
       later = c.in-Ok.ensures.later old keeps.durable;
-      images = λ whole. from_start answers plan together head side s [] (state device) (state new) (λ d. g.met.D.Disk.only_now device d old) still keeps further;
+      images = λ whole. from_start answers plan together head side s [] (view device).state (view new).state (λ d. g.met.D.Disk.only_now device d old) still keeps further;
       further = λ whole. further;
-      short = keeps_since plan c.told_in_parts.ensures.one_answer (base_of checkpoint c.self.inside.taken) together head head side (side_after side n) s (cut_at s n cut.states) (state device) (state new)
+      short = keeps_since plan c.told_in_parts.ensures.one_answer (base_of checkpoint c.self.inside.taken) together head head side (side_after side n) s (cut_at s n cut.states) (view device).state (view new).state
           c.self.invariant.1.from_checkpoint (omega (arith, epoch, base)) begun;
     })
 
 pub returns-in-Device-clause-crash : goal.returns-in-Device-clause-crash
 returns-in-Device-clause-crash g c =
-    let state = g.D.Disk.state in
+    let view = g.D.Disk.view in
     let answers = g.L.Law.answers in
     let device = c.self.inside.device in
     let plan = c.self.inside.plan in
@@ -206,34 +206,34 @@ returns-in-Device-clause-crash g c =
     let holds : Holds (cut_at s n cut.states) (last_epoch s) = c.standings_advance.ensures.holds_cut s (last_epoch s) n cut.states (most answers k is) (omega arith) in
     let base : base_of checkpoint c.self.inside.taken ≡ cut.epoch = ap (base_of checkpoint) at in
     let together = c.told_in_parts.ensures.together in
-    subst (λ (z : Keeping g.row.D.Denot). g.D.Disk.is_lawful z.device → CrashLeaves answers [] z (state z.device) (state new)) c.self.view_is
+    subst (λ (z : Keeping g.row.D.Denot). (g.D.Disk.view z.device).lawful → CrashLeaves answers [] z (view z.device).state (view new).state) c.self.view_is
     (λ old.
-    let keeps = keeps_of c.self.inside.broken answers plan head side s (state device) c.if-self.false (c.self.invariant.2 old) in
+    let keeps = keeps_of c.self.inside.broken answers plan head side s (view device).state c.if-self.false (c.self.invariant.2 old) in
     let begun = c.in-Err.ensures.begun old plan head s n slots epoch last is_a_cut keeps in
-    let further = either answers plan together head side s [] (state device) (state new) (side_after side n) (cut_at s n cut.states) still next holds begun in
+    let further = either answers plan together head side s [] (view device).state (view new).state (side_after side n) (cut_at s n cut.states) still next holds begun in
     record {
       later = c.in-Err.ensures.later old keeps.durable;
-      images = λ whole. from_start answers plan together head side s [] (state device) (state new) (λ d. g.met.D.Disk.only_now device d old) still keeps further;
+      images = λ whole. from_start answers plan together head side s [] (view device).state (view new).state (λ d. g.met.D.Disk.only_now device d old) still keeps further;
       further = λ whole. further;
-      short = keeps_since plan c.told_in_parts.ensures.one_answer (base_of checkpoint c.self.inside.taken) together head head side (side_after side n) s (cut_at s n cut.states) (state device) (state new)
+      short = keeps_since plan c.told_in_parts.ensures.one_answer (base_of checkpoint c.self.inside.taken) together head head side (side_after side n) s (cut_at s n cut.states) (view device).state (view new).state
           c.self.invariant.1.from_checkpoint (omega (arith, epoch, base)) begun;
     })
 
 pub returns-in-TooManyKeys-clause-crash : goal.returns-in-TooManyKeys-clause-crash
 returns-in-TooManyKeys-clause-crash g c old =
     let same : c.write_states.new.device ≡ c.self.inside.device = ⊎_elim (λ d. (let m = c.in-TooManyKeys.is in absurd (cc (d, m)))) (λ e. e) c.in-Err.ensures.untouched in
-    subst (λ (d : g.row.D.Denot). CrashLeaves g.L.Law.answers [] c.args.self.now (g.D.Disk.state c.args.self.now.device) (g.D.Disk.state d)) (ap (λ (z : Keeping g.row.D.Denot). z.device) (sym c.self.view_is) ∙ sym same)
-    (leaves_as_it_was g.D.Disk.is_lawful g.D.Disk.state g.met.D.Disk.only_now g.L.Law.answers c.told_in_parts.ensures.together c.standings_advance.ensures.not_yet c.self.view_is c.self.invariant.2 [] old)
+    subst (λ (d : g.row.D.Denot). CrashLeaves g.L.Law.answers [] c.args.self.now (g.D.Disk.view c.args.self.now.device).state (g.D.Disk.view d).state) (ap (λ (z : Keeping g.row.D.Denot). z.device) (sym c.self.view_is) ∙ sym same)
+    (leaves_as_it_was g.D.Disk.view g.met.D.Disk.only_now g.L.Law.answers c.told_in_parts.ensures.together c.standings_advance.ensures.not_yet c.self.view_is c.self.invariant.2 [] old)
 
 pub returns-in-Memory-clause-crash : goal.returns-in-Memory-clause-crash
 returns-in-Memory-clause-crash g c old =
     let same : c.write_states.new.device ≡ c.self.inside.device = ⊎_elim (λ d. (let m = c.in-Memory.is in absurd (cc (d, m)))) (λ e. e) c.in-Err.ensures.untouched in
-    subst (λ (d : g.row.D.Denot). CrashLeaves g.L.Law.answers [] c.args.self.now (g.D.Disk.state c.args.self.now.device) (g.D.Disk.state d)) (ap (λ (z : Keeping g.row.D.Denot). z.device) (sym c.self.view_is) ∙ sym same)
-    (leaves_as_it_was g.D.Disk.is_lawful g.D.Disk.state g.met.D.Disk.only_now g.L.Law.answers c.told_in_parts.ensures.together c.standings_advance.ensures.not_yet c.self.view_is c.self.invariant.2 [] old)
+    subst (λ (d : g.row.D.Denot). CrashLeaves g.L.Law.answers [] c.args.self.now (g.D.Disk.view c.args.self.now.device).state (g.D.Disk.view d).state) (ap (λ (z : Keeping g.row.D.Denot). z.device) (sym c.self.view_is) ∙ sym same)
+    (leaves_as_it_was g.D.Disk.view g.met.D.Disk.only_now g.L.Law.answers c.told_in_parts.ensures.together c.standings_advance.ensures.not_yet c.self.view_is c.self.invariant.2 [] old)
 
 pub returns-in-Memory-clause-refused : goal.returns-in-Memory-clause-refused
 returns-in-Memory-clause-refused g c =
-    let state = g.D.Disk.state in
+    let view = g.D.Disk.view in
     let answers = g.L.Law.answers in
     let device = c.self.inside.device in
     let plan = c.self.inside.plan in

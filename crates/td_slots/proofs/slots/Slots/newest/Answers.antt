@@ -66,14 +66,14 @@ returns-clause-states g c =
 
 pub returns-clause-told : goal.returns-clause-told
 returns-clause-told g c lawful =
-    let state = g.D.Disk.state in
+    let view = g.D.Disk.view in
     let version = c.args.version in
     let folds = c.args.folds.now in
     let s = c.args.self.now in
     let a = c.in_ok-first.first in
     let b = c.in_ok-second.second in
     let p = c.in-Some.payload in
-    let image = (state c.args.device.now).bytes in
+    let image = (view c.args.device.now).state.bytes in
     let still = c.in_ok-first.ensures.read.lawful.0 lawful in
     let second : payload_of b ≡ opened (slot s 1) image = c.in_ok-second.ensures.found still ∙ ap (opened (slot s 1)) (c.in_ok-first.ensures.read.same lawful) in
     let read : newest version folds s image ≡ picked (newer_of (payload_of a) (payload_of b)) =

@@ -1,6 +1,6 @@
 use Rattle.std.proofs.Common.{refl}
 use Rattle.std.proofs.lemmas.Option.{IfSome_then}
-use Rattle.td_standing.specs.Standing.{last_epoch, last_request}
+use Rattle.td_store.specs.standing.Standing.{last_epoch, last_request}
 use Rattle.td_feed.proofs.Sessions.{disk_ended, fed_ended}
 use Rattle.td_feed.proofs.SeenAsked.{seen_ended}
 use Rattle.td_feed.proofs.workers.fn.beside.scope.Goals as goal

@@ -1,5 +1,0 @@
-use Rattle.td_standing.proofs.Inputs.{accepted}
-use Rattle.td_standing.proofs.laws.inputs_are_accepted.Goals as goal
-
-pub returns : goal.returns
-returns c plan batch lawful = accepted plan (λ v p at. (c.look_ups.ensures.vertices plan v p lawful at).number) batch

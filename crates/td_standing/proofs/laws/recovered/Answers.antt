@@ -1,6 +1,0 @@
-use Rattle.std.proofs.Common.{sym, subst}
-use Rattle.td_standing.specs.Tells.{Tells}
-use Rattle.td_standing.proofs.laws.recovered.Goals as goal
-
-pub returns : goal.returns
-returns g c plan head side s d durable tells f image = subst (Tells plan head side s) (sym (durable f image)) tells

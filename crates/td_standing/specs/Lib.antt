@@ -1,8 +1,0 @@
-pub mod Refusals
-pub mod Standing
-pub mod Told
-pub mod Stops
-pub mod Tells
-pub mod Advanced
-pub mod Read
-pub mod Examples

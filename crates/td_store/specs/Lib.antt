@@ -1,0 +1,3 @@
+pub mod standing
+pub mod group
+pub mod copy
