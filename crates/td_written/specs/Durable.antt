@@ -34,7 +34,8 @@ module _ (stored : Stored) {D S T : Type 0} (view : D → DiskView)
 module _ (stored : Stored) {D S T E H : Type 0} (view : D → DiskView)
     (remaining : S → Option (List ℕ)) (contents : T → Option (List ℕ)) (marks : Bool)
     (new_view : E → DiskView) (copies_of : H → Option (List (Copied E))) (seen_of : H → Option ℕ) (plan : List PlanLine) where
-  -- A STREAM, whose epochs may have places or not, that refuses epochs or not, holds outputs or not, answers questions or not and makes copies or not, by one worker or by several, of a disk before and after, of its reader, of a writer before and after, of a host before and after, and of its answer
+  -- A STREAM, by its options and by one worker or several, of a disk before and after, of its reader, of a writer and of a host before and after, and of its
+  -- answer
   pub record StreamsBy (how : StreamOptions) (alone : Bool) (disk left : D) (reader : S) (writer written : T) (host told : H) (result : Result (Unit {0}) Fault) : Type 0 where
     pub disk_is_kept : KeepsDisk view result disk left
     -- a closure that the store lacks comes first: nothing is written
