@@ -6,3 +6,4 @@ pub mod Reads
 pub mod Region
 pub mod Regions
 pub mod States
+pub mod Steps

@@ -17,6 +17,10 @@ abbrev pub start_of : ℕ → Option (List ℕ) → Option (List ℕ)
 start_of n None = None
 start_of n (Some payload) = Some (take n payload)
 
+-- the first n bytes of the payload where the gate byte is 0xA5, else none
+abbrev pub opened_start : ℕ → Region → List ℕ → Option (List ℕ)
+opened_start n r image = start_of n (opened r image)
+
 -- the same n bytes at that offset
 pub record SameWithin (at n : ℕ) (old new : List ℕ) : Type 0 where
   pub each : (i : ℕ) → at ≤ i → i < at + n → slice_index new i ≡ slice_index old i

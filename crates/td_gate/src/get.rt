@@ -1,8 +1,9 @@
 // Reading a region.
-ghost use Rattle.std.specs.Prelude.{◌≡◌, ◌==◌, ◌+◌, ◌≤◌, List, ℕ, length, take, IfOk};
+ghost use Rattle.std.specs.Prelude.{◌≡◌, ◌==◌, ◌+◌, ◌≤◌, length, take, IfOk};
 ghost use Rattle.td_disk.specs.Disk.{CountsDevice, CountsFailures};
 ghost use Rattle.td_gate.specs.Reads.{IsRead};
-ghost use Rattle.td_gate.specs.Region.{gate_of, opened, start_of, payload_of, payload_in, HasLength, IsSettled};
+ghost use Rattle.td_gate.specs.Region.{gate_of, opened, opened_start, payload_of, payload_in, HasLength};
+ghost use Rattle.td_gate.specs.Steps.{IsFound, IsInEachImage};
 
 use crate::region::OPEN;
 use crate::{GateError, Region};
@@ -13,15 +14,12 @@ impl Region {
     /// The payload where the gate is open, else `None`. It refuses `Device` and `Memory`.
     pub fn get<D: Disk>(&self, alloc: Global, device: &mut D) -> Result<Option<Vec<u8>>, GateError>
         requires { self.now.at + self.now.len + 1 ≤ (D.view device.old).capacity }
-        ensures found { IfOk result (λ found. (D.view device.old).lawful
-            → payload_of found ≡ opened self.now (D.view device.old).state.bytes) }
+        ensures found { IfOk result (λ found. IsFound D.view (opened self.now) (payload_of found) device.old) }
 
         // Whatever the disk, also one that is not lawful.
         ensures len { IfOk result (λ found. HasLength found self.now.len) }
 
-        ensures every { IfOk result (λ found. (D.view device.old).lawful
-            → IsSettled self.now (D.view device.old).state → (c : List ℕ) → (D.view device.old).state.images c
-            → payload_of found ≡ opened self.now c) }
+        ensures every { IfOk result (λ found. IsInEachImage D.view self.now (opened self.now) (payload_of found) device.old) }
         ensures failures { CountsDevice result GateError.Device (D.view device.old).failures (D.view device.new).failures }
         ensures read { IsRead D.view device.old device.new }
     {
@@ -34,8 +32,7 @@ impl Region {
     pub fn get_into<D: Disk>(&self, device: &mut D, bytes: &mut [u8]) -> Result<bool, Fault>
         requires room { self.now.at + self.now.len + 1 ≤ (D.view device.old).capacity }
         requires len { length bytes.old ≡ self.now.len + 1 }
-        ensures found { IfOk result (λ is. (D.view device.old).lawful
-            → payload_in is (take self.now.len bytes.new) ≡ opened self.now (D.view device.old).state.bytes) }
+        ensures found { IfOk result (λ is. IsFound D.view (opened self.now) (payload_in is (take self.now.len bytes.new)) device.old) }
         ensures failures { CountsFailures result (D.view device.old).failures (D.view device.new).failures }
         ensures read { IsRead D.view device.old device.new }
     {
@@ -53,12 +50,9 @@ impl Region {
     ) -> Result<Option<Vec<u8>>, GateError>
         requires room { self.now.at + self.now.len + 1 ≤ (D.view device.old).capacity }
         requires count { count ≤ self.now.len }
-        ensures found { IfOk result (λ found. (D.view device.old).lawful
-            → payload_of found ≡ start_of count (opened self.now (D.view device.old).state.bytes)) }
+        ensures found { IfOk result (λ found. IsFound D.view (opened_start count self.now) (payload_of found) device.old) }
         ensures len { IfOk result (λ found. HasLength found count) }
-        ensures every { IfOk result (λ found. (D.view device.old).lawful
-            → IsSettled self.now (D.view device.old).state → (c : List ℕ) → (D.view device.old).state.images c
-            → payload_of found ≡ start_of count (opened self.now c)) }
+        ensures every { IfOk result (λ found. IsInEachImage D.view self.now (opened_start count self.now) (payload_of found) device.old) }
         ensures failures { CountsDevice result GateError.Device (D.view device.old).failures (D.view device.new).failures }
         ensures read { IsRead D.view device.old device.new }
     {
@@ -90,8 +84,7 @@ impl Region {
     ) -> Result<Option<Vec<u8>>, GateError>
         requires room { self.now.at + self.now.len + 1 ≤ (D.view device.old).capacity }
         requires count { count ≤ self.now.len }
-        ensures found { IfOk result (λ found. (D.view device.old).lawful
-            → payload_of found ≡ start_of count (opened self.now (D.view device.old).state.bytes)) }
+        ensures found { IfOk result (λ found. IsFound D.view (opened_start count self.now) (payload_of found) device.old) }
         ensures len { IfOk result (λ found. HasLength found count) }
         ensures failures { CountsDevice result GateError.Device (D.view device.old).failures (D.view device.new).failures }
         ensures read { IsRead D.view device.old device.new }

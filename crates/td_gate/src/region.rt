@@ -1,13 +1,9 @@
 // A region behind a gate, and the three steps that replace its payload.
-ghost use Rattle.std.specs.Prelude.{◌≡◌, ◌⊎◌, ◌+◌, ◌≤◌, ◌↔◌, ℕ, List, length, None, Some, OnOk, IfOk, IfErr};
+ghost use Rattle.std.specs.Prelude.{◌≡◌, ◌+◌, ◌≤◌, length, OnOk, IfOk, IfErr};
 ghost use Rattle.td_disk.specs.Calls.{Calls, IsKept, HasFailed};
-ghost use Rattle.td_disk.specs.Disk.{IsDurable};
-ghost use Rattle.td_gate.specs.CrashSafe.{CrashSafe};
-ghost use Rattle.td_gate.specs.declared.region.Region.{Region as AnyRegion};
-ghost use Rattle.td_gate.specs.Regions.{Apart, KeepsRegion};
 ghost use Rattle.td_gate.specs.States.{closed_region, closed_disk, filled_region, filled_disk};
-ghost use Rattle.td_gate.specs.Region.{opened, gate_of, closed_byte, IsSettled, IsClosed, IsFilled, IsOpen};
-ghost use Rattle.td_gate.specs.Region.{Closes, Fills, Opens, Puts};
+ghost use Rattle.td_gate.specs.Steps.{ClosesSafely, LeavesClosed, ClosesGate, FillsSafely, LeavesFilled, OpensSafely, OpensFilled};
+ghost use Rattle.td_gate.specs.Steps.{PutsSafely, LeavesOpen, LeavesOldOrNew, KeepsOthers, LeavesDurable, StaysDurable};
 
 use crate::write_and_sync::write_and_sync;
 use td_disk::{Disk, Fault};
@@ -47,13 +43,10 @@ pub struct Filled<'a, D: Disk> {
 fn close_gate<D: Disk>(region: Region, device: &mut D) -> Result<(), Fault>
     requires { region.at + region.len + 1 ≤ (D.view device.old).capacity }
     ensures device { Calls D.view result device.old device.new }
-    ensures crash_safe { (D.view device.old).lawful → IsSettled region (D.view device.old).state
-        → CrashSafe (Closes region) (D.view device.old).state (D.view device.new).state }
-    ensures closed { OnOk result ((D.view device.old).lawful → IsSettled region (D.view device.old).state
-        → IsClosed region (D.view device.new).state) }
-    ensures gate { OnOk result ((D.view device.old).lawful
-        → gate_of region (D.view device.new).state.bytes ≡ closed_byte (gate_of region (D.view device.old).state.bytes)) }
-    ensures durable { OnOk result ((D.view device.old).lawful → IsDurable (D.view device.old).state → IsDurable (D.view device.new).state) }
+    ensures crash_safe { ClosesSafely D.view region device.old device.new }
+    ensures closed { OnOk result (LeavesClosed D.view region device.old device.new) }
+    ensures gate { OnOk result (ClosesGate D.view region device.old device.new) }
+    ensures durable { OnOk result (StaysDurable D.view device.old device.new) }
 {
     // The answer fits a u64, and so does the place of the gate.
     let _size = device.size();
@@ -71,10 +64,8 @@ fn fill_payload<D: Disk>(region: Region, device: &mut D, payload: &[u8]) -> Resu
     requires room { region.at + region.len + 1 ≤ (D.view device.old).capacity }
     requires len { length payload.now ≡ region.len }
     ensures device { Calls D.view result device.old device.new }
-    ensures crash_safe { (D.view device.old).lawful → IsClosed region (D.view device.old).state
-        → CrashSafe (Fills region) (D.view device.old).state (D.view device.new).state }
-    ensures filled { OnOk result ((D.view device.old).lawful → IsClosed region (D.view device.old).state
-        → IsFilled region payload.now (D.view device.new).state) }
+    ensures crash_safe { FillsSafely D.view region device.old device.new }
+    ensures filled { OnOk result (LeavesFilled D.view region payload.now device.old device.new) }
 {
     write_and_sync(device, region.at, payload)
 }
@@ -90,17 +81,10 @@ impl Region {
         ensures region { IfOk result (λ closed. closed_region closed ≡ self.now) }
         ensures kept { IfOk result (λ closed. IsKept D.view device.old (closed_disk closed).now) }
         ensures failed { IfErr result (λ back. HasFailed D.view device.old back.1.now) }
-        ensures crash_safe { IfOk result (λ closed. (D.view device.old).lawful
-            → IsSettled self.now (D.view device.old).state
-            → CrashSafe (Closes self.now) (D.view device.old).state (D.view (closed_disk closed).now).state) }
-        ensures crash_safe_back { IfErr result (λ back. (D.view device.old).lawful
-            → IsSettled self.now (D.view device.old).state
-            → CrashSafe (Closes self.now) (D.view device.old).state (D.view back.1.now).state) }
-        ensures closed { IfOk result (λ closed. (D.view device.old).lawful
-            → IsSettled self.now (D.view device.old).state
-            → IsClosed self.now (D.view (closed_disk closed).now).state) }
-        ensures gate { IfOk result (λ closed. (D.view device.old).lawful
-            → gate_of self.now (D.view (closed_disk closed).now).state.bytes ≡ closed_byte (gate_of self.now (D.view device.old).state.bytes)) }
+        ensures crash_safe { IfOk result (λ closed. ClosesSafely D.view self.now device.old (closed_disk closed).now) }
+        ensures crash_safe_back { IfErr result (λ back. ClosesSafely D.view self.now device.old back.1.now) }
+        ensures closed { IfOk result (λ closed. LeavesClosed D.view self.now device.old (closed_disk closed).now) }
+        ensures gate { IfOk result (λ closed. ClosesGate D.view self.now device.old (closed_disk closed).now) }
     {
         let region = *self;
         match close_gate(region, device) {
@@ -114,13 +98,10 @@ impl Region {
     pub fn shut<D: Disk>(&self, device: &mut D) -> Result<(), Fault>
         requires { self.now.at + self.now.len + 1 ≤ (D.view device.old).capacity }
         ensures device { Calls D.view result device.old device.new }
-        ensures crash_safe { (D.view device.old).lawful → IsSettled self.now (D.view device.old).state
-            → CrashSafe (Closes self.now) (D.view device.old).state (D.view device.new).state }
-        ensures closed { OnOk result ((D.view device.old).lawful → IsSettled self.now (D.view device.old).state
-            → IsClosed self.now (D.view device.new).state) }
-        ensures gate { OnOk result ((D.view device.old).lawful
-            → gate_of self.now (D.view device.new).state.bytes ≡ closed_byte (gate_of self.now (D.view device.old).state.bytes)) }
-        ensures durable { OnOk result ((D.view device.old).lawful → IsDurable (D.view device.old).state → IsDurable (D.view device.new).state) }
+        ensures crash_safe { ClosesSafely D.view self.now device.old device.new }
+        ensures closed { OnOk result (LeavesClosed D.view self.now device.old device.new) }
+        ensures gate { OnOk result (ClosesGate D.view self.now device.old device.new) }
+        ensures durable { OnOk result (StaysDurable D.view device.old device.new) }
     {
         close_gate(*self, device)
     }
@@ -130,13 +111,9 @@ impl Region {
     pub fn uncover<D: Disk>(&self, device: &mut D) -> Result<(), Fault>
         requires room { self.now.at + self.now.len + 1 ≤ (D.view device.old).capacity }
         ensures device { Calls D.view result device.old device.new }
-        ensures crash_safe { (D.view device.old).lawful → (payload : List ℕ)
-            → IsFilled self.now payload (D.view device.old).state
-            → CrashSafe (Opens self.now payload) (D.view device.old).state (D.view device.new).state }
-        ensures open { OnOk result ((D.view device.old).lawful → (payload : List ℕ)
-            → IsFilled self.now payload (D.view device.old).state
-            → IsOpen self.now payload (D.view device.new).state) }
-        ensures durable { OnOk result ((D.view device.old).lawful → IsDurable (D.view device.new).state) }
+        ensures crash_safe { OpensSafely D.view self.now device.old device.new }
+        ensures open { OnOk result (OpensFilled D.view self.now device.old device.new) }
+        ensures durable { OnOk result (LeavesDurable D.view device.old device.new) }
     {
         // The answer fits a u64, and so does the place of the gate.
         let _size = device.size();
@@ -156,24 +133,18 @@ impl Region {
         ensures device { Calls D.view result device.old device.new }
 
         // Each image since the start of the call, by the image before from which it came.
-        ensures crash_safe { (D.view device.old).lawful → IsSettled self.now (D.view device.old).state
-            → CrashSafe (Puts self.now payload.now) (D.view device.old).state (D.view device.new).state }
+        ensures crash_safe { PutsSafely D.view self.now payload.now device.old device.new }
 
         // In each of them this region is as it was read, closed, or open with the new payload,
-        ensures region { (D.view device.old).lawful → IsSettled self.now (D.view device.old).state
-            → (c : List ℕ) → (D.view device.new).state.since (D.view device.old).state.moment c
-            → (opened self.now c ≡ opened self.now (D.view device.old).state.bytes) ⊎ ((opened self.now c ≡ None) ⊎ (opened self.now c ≡ Some payload.now)) }
+        ensures region { LeavesOldOrNew D.view self.now payload.now device.old device.new }
 
         // and each other settled region is as it was.
-        ensures others { (D.view device.old).lawful → IsSettled self.now (D.view device.old).state
-            → (s : AnyRegion) → Apart self.now s → IsSettled s (D.view device.old).state
-            → KeepsRegion s (D.view device.old).state (D.view device.new).state }
+        ensures others { KeepsOthers D.view self.now device.old device.new }
 
-        ensures open { OnOk result ((D.view device.old).lawful → IsSettled self.now (D.view device.old).state
-            → IsOpen self.now payload.now (D.view device.new).state) }
+        ensures open { OnOk result (LeavesOpen D.view self.now payload.now device.old device.new) }
 
         // Whether the region was settled or not, a crash then leaves what is read.
-        ensures durable { OnOk result ((D.view device.old).lawful → IsDurable (D.view device.new).state) }
+        ensures durable { OnOk result (LeavesDurable D.view device.old device.new) }
     {
         self.close_fill_open(device, payload)
     }
@@ -184,11 +155,9 @@ impl Region {
         requires room { self.now.at + self.now.len + 1 ≤ (D.view device.old).capacity }
         requires len { length payload.now ≡ self.now.len }
         ensures device { Calls D.view result device.old device.new }
-        ensures crash_safe { (D.view device.old).lawful → IsSettled self.now (D.view device.old).state
-            → CrashSafe (Puts self.now payload.now) (D.view device.old).state (D.view device.new).state }
-        ensures open { OnOk result ((D.view device.old).lawful → IsSettled self.now (D.view device.old).state
-            → IsOpen self.now payload.now (D.view device.new).state) }
-        ensures durable { OnOk result ((D.view device.old).lawful → IsDurable (D.view device.new).state) }
+        ensures crash_safe { PutsSafely D.view self.now payload.now device.old device.new }
+        ensures open { OnOk result (LeavesOpen D.view self.now payload.now device.old device.new) }
+        ensures durable { OnOk result (LeavesDurable D.view device.old device.new) }
     {
         let closed = match self.close(device) {
             Ok(closed) => closed,
@@ -216,15 +185,9 @@ impl<'a, D: Disk> Closed<'a, D> {
         ensures region { IfOk result (λ filled. filled_region filled ≡ closed_region self.entry) }
         ensures kept { IfOk result (λ filled. IsKept D.view (closed_disk self.entry).now (filled_disk filled).now) }
         ensures failed { IfErr result (λ back. HasFailed D.view (closed_disk self.entry).now back.1.now) }
-        ensures crash_safe { IfOk result (λ filled. (D.view (closed_disk self.entry).now).lawful
-            → IsClosed (closed_region self.entry) (D.view (closed_disk self.entry).now).state
-            → CrashSafe (Fills (closed_region self.entry)) (D.view (closed_disk self.entry).now).state (D.view (filled_disk filled).now).state) }
-        ensures crash_safe_back { IfErr result (λ back. (D.view (closed_disk self.entry).now).lawful
-            → IsClosed (closed_region self.entry) (D.view (closed_disk self.entry).now).state
-            → CrashSafe (Fills (closed_region self.entry)) (D.view (closed_disk self.entry).now).state (D.view back.1.now).state) }
-        ensures filled { IfOk result (λ filled. (D.view (closed_disk self.entry).now).lawful
-            → IsClosed (closed_region self.entry) (D.view (closed_disk self.entry).now).state
-            → IsFilled (closed_region self.entry) payload.now (D.view (filled_disk filled).now).state) }
+        ensures crash_safe { IfOk result (λ f. FillsSafely D.view (closed_region self.entry) (closed_disk self.entry).now (filled_disk f).now) }
+        ensures crash_safe_back { IfErr result (λ back. FillsSafely D.view (closed_region self.entry) (closed_disk self.entry).now back.1.now) }
+        ensures filled { IfOk result (λ f. LeavesFilled D.view (closed_region self.entry) payload.now (closed_disk self.entry).now (filled_disk f).now) }
     {
         let Closed { region, device } = self;
         match fill_payload(region, device, payload) {
@@ -242,19 +205,10 @@ impl<'a, D: Disk> Filled<'a, D> {
         ensures same_back { IfErr result (λ back. back.1.ghost_name ≡ (filled_disk self.entry).ghost_name) }
         ensures kept { IfOk result (λ back. IsKept D.view (filled_disk self.entry).now back.now) }
         ensures failed { IfErr result (λ back. HasFailed D.view (filled_disk self.entry).now back.1.now) }
-        ensures crash_safe { IfOk result (λ back. (D.view (filled_disk self.entry).now).lawful
-            → (payload : List ℕ)
-            → IsFilled (filled_region self.entry) payload (D.view (filled_disk self.entry).now).state
-            → CrashSafe (Opens (filled_region self.entry) payload) (D.view (filled_disk self.entry).now).state (D.view back.now).state) }
-        ensures crash_safe_back { IfErr result (λ back. (D.view (filled_disk self.entry).now).lawful
-            → (payload : List ℕ)
-            → IsFilled (filled_region self.entry) payload (D.view (filled_disk self.entry).now).state
-            → CrashSafe (Opens (filled_region self.entry) payload) (D.view (filled_disk self.entry).now).state (D.view back.1.now).state) }
-        ensures open { IfOk result (λ back. (D.view (filled_disk self.entry).now).lawful
-            → (payload : List ℕ)
-            → IsFilled (filled_region self.entry) payload (D.view (filled_disk self.entry).now).state
-            → IsOpen (filled_region self.entry) payload (D.view back.now).state) }
-        ensures durable { IfOk result (λ back. (D.view (filled_disk self.entry).now).lawful → IsDurable (D.view back.now).state) }
+        ensures crash_safe { IfOk result (λ back. OpensSafely D.view (filled_region self.entry) (filled_disk self.entry).now back.now) }
+        ensures crash_safe_back { IfErr result (λ back. OpensSafely D.view (filled_region self.entry) (filled_disk self.entry).now back.1.now) }
+        ensures open { IfOk result (λ back. OpensFilled D.view (filled_region self.entry) (filled_disk self.entry).now back.now) }
+        ensures durable { IfOk result (λ back. LeavesDurable D.view (filled_disk self.entry).now back.now) }
     {
         let Filled { region, device } = self;
         match region.uncover(device) {

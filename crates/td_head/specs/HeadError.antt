@@ -1,5 +1,5 @@
 -- The refusals of heads.
-use Rattle.std.specs.Prelude.{ℕ}
+use Rattle.std.specs.Prelude.{◌≡◌, ◌⊎◌, ℕ}
 use Rattle.td_gate.specs.declared.error.GateError.{GateError}
 use Rattle.td_gate.specs.declared.error.GateError.TheVariants as gate
 use Rattle.td_head.specs.declared.error.HeadError.{HeadError}
@@ -18,3 +18,15 @@ number_of LastGeneration = 6
 abbrev pub of_gate : GateError → HeadError
 of_gate gate.Device = Device
 of_gate gate.Memory = Memory
+
+-- memory ran out, or the device failed
+abbrev pub IsMemoryOrDevice : HeadError → Type 0
+IsMemoryOrDevice e = (e ≡ Memory) ⊎ (e ≡ Device)
+
+-- the device failed, memory ran out, or else this holds
+abbrev pub IsFailureOr : Type 0 → HeadError → Type 0
+IsFailureOr other e = (e ≡ Device) ⊎ ((e ≡ Memory) ⊎ other)
+
+-- what a call that raises a head may refuse
+abbrev pub IsRaiseRefusal : HeadError → Type 0
+IsRaiseRefusal e = (e ≡ LastGeneration) ⊎ ((e ≡ Memory) ⊎ (e ≡ Device))

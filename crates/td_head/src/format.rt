@@ -1,8 +1,8 @@
 // What a format begins with: zeros over all parts of a disk.
-ghost use Rattle.std.specs.Prelude.{◌≡◌, ◌≢◌, ◌↔◌, ◌+◌, ◌≤◌, false, slice_index, OnOk, IfOk};
+ghost use Rattle.std.specs.Prelude.{◌≡◌, ◌≢◌, ◌+◌, ◌≤◌, false, slice_index, OnOk, IfOk};
 ghost use Rattle.td_disk.specs.Calls.{Calls};
-ghost use Rattle.td_disk.specs.Disk.{IsDurable, SameOutside};
 ghost use Rattle.td_gate.specs.Region.{gate_of};
+ghost use Rattle.td_gate.specs.Steps.{ChangesOnly, LeavesDurable, StaysDurable};
 ghost use Rattle.td_head.specs.Images.{IsZero};
 ghost use Rattle.td_head.specs.Layout.{head_a, head_b, size_of};
 
@@ -15,10 +15,9 @@ fn write_closed<D: Disk>(device: &mut D, gate: u64) -> Result<bool, Fault>
     requires { gate + 1 ≤ (D.view device.old).capacity }
     ensures device { Calls D.view result device.old device.new }
     ensures closed { OnOk result ((D.view device.old).lawful → slice_index (D.view device.new).state.bytes gate ≢ 0xA5) }
-    ensures others { OnOk result ((D.view device.old).lawful
-        → SameOutside gate 1 (D.view device.old).state.bytes (D.view device.new).state.bytes) }
+    ensures others { OnOk result (ChangesOnly D.view gate 1 device.old device.new) }
     ensures durable { IfOk result (λ is_written. is_written ≡ false
-        → (D.view device.old).lawful → IsDurable (D.view device.old).state → IsDurable (D.view device.new).state) }
+        → StaysDurable D.view device.old device.new) }
 {
     let mut byte = [0];
     device.read(gate, &mut byte)?;
@@ -36,10 +35,8 @@ fn close_heads<D: Disk>(device: &mut D) -> Result<(), Fault>
     ensures device { Calls D.view result device.old device.new }
     ensures first { OnOk result ((D.view device.old).lawful → gate_of head_a (D.view device.new).state.bytes ≢ 0xA5) }
     ensures second { OnOk result ((D.view device.old).lawful → gate_of head_b (D.view device.new).state.bytes ≢ 0xA5) }
-    ensures others { OnOk result ((D.view device.old).lawful
-        → SameOutside 0 8258 (D.view device.old).state.bytes (D.view device.new).state.bytes) }
-    ensures durable { OnOk result ((D.view device.old).lawful
-        → IsDurable (D.view device.old).state → IsDurable (D.view device.new).state) }
+    ensures others { OnOk result (ChangesOnly D.view 0 8258 device.old device.new) }
+    ensures durable { OnOk result (StaysDurable D.view device.old device.new) }
 {
     let is_first = write_closed(device, HEAD_LEN)?;
     let is_second = write_closed(device, 2 * HEAD_LEN + 1)?;
@@ -58,9 +55,8 @@ pub fn wipe<D: Disk>(device: &mut D, shape: Shape) -> Result<(), Fault>
     requires { size_of shape ≤ (D.view device.old).capacity }
     ensures device { Calls D.view result device.old device.new }
     ensures zero { OnOk result ((D.view device.old).lawful → IsZero (size_of shape) (D.view device.new).state.bytes) }
-    ensures others { OnOk result ((D.view device.old).lawful
-        → SameOutside 0 (size_of shape) (D.view device.old).state.bytes (D.view device.new).state.bytes) }
-    ensures durable { OnOk result ((D.view device.old).lawful → IsDurable (D.view device.new).state) }
+    ensures others { OnOk result (ChangesOnly D.view 0 (size_of shape) device.old device.new) }
+    ensures durable { OnOk result (LeavesDurable D.view device.old device.new) }
 {
     let bytes = shape.bytes();
     let _size = device.size();

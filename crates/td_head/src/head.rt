@@ -3,9 +3,9 @@ ghost use Rattle.std.specs.Prelude.{◌≡◌, ◌⊎◌, ◌≤◌, length, IfO
 ghost use Rattle.td_disk.specs.Disk.{CountsDevice};
 ghost use Rattle.td_gate.specs.Reads.{IsRead};
 ghost use Rattle.td_gate.specs.Region.{opened, HasLength};
-ghost use Rattle.td_head.specs.Head.{candidate, greater, fields_in, is_version, IsCanonical, IsHeaded};
+ghost use Rattle.td_head.specs.Head.{candidate, greater, fields_in, is_version, IsCanonical};
 ghost use Rattle.td_head.specs.Layout.{head, size_of};
-ghost use Rattle.td_head.specs.Read.{Headed, Refused, IsFieldsTold, fields_of, chosen_of};
+ghost use Rattle.td_head.specs.Read.{Headed, Refused, HeadsTell, HeadsRefuse, IsFieldsTold, fields_of, chosen_of};
 
 use crate::error::HeadError;
 use crate::shape::{HEADS_LEN, Shape, head_region};
@@ -150,10 +150,9 @@ fn later(first: Option<Vec<u8>>, second: Option<Vec<u8>>) -> Option<(u8, Vec<u8>
 /// The head that a disk has for a plan. It refuses `NotFormatted`, `Damaged`, `WrongPlan`, `Device` and `Memory`. It
 /// reads each head once.
 pub fn read<D: Disk>(alloc: Global, device: &mut D, plan: &Plan) -> Result<Head, HeadError>
-    ensures told { IfOk result (λ h. (D.view device.old).lawful → IsHeaded plan.now (D.view device.old).state.bytes (Headed h)) }
+    ensures told { IfOk result (λ h. HeadsTell D.view plan.now (Headed h) device.old) }
     ensures fits { IfOk result (λ h. size_of h.shape ≤ (D.view device.old).capacity) }
-    ensures refused { IfErr result (λ e. (e ≡ HeadError.Device) ⊎ ((e ≡ HeadError.Memory) ⊎ ((D.view device.old).lawful
-        → IsHeaded plan.now (D.view device.old).state.bytes (Refused e)))) }
+    ensures refused { IfErr result (λ e. HeadsRefuse D.view plan.now e device.old) }
     ensures failures { CountsDevice result HeadError.Device (D.view device.old).failures (D.view device.new).failures }
     ensures read { IsRead D.view device.old device.new }
 {

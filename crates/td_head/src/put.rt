@@ -1,11 +1,10 @@
 // Putting a head: the first one of a formatted disk, or the one beside that which counts.
-ghost use Rattle.std.specs.Prelude.{◌≡◌, ◌⊎◌, ◌↔◌, ◌+◌, ◌-◌, ◌^◌, ◌≤◌, length, OnOk, IfOk, IfErr, IsErrOf};
+ghost use Rattle.std.specs.Prelude.{◌≡◌, ◌↔◌, ◌+◌, ◌-◌, ◌^◌, ◌≤◌, length, IfOk, IfErr, IsErrOf};
 ghost use Rattle.td_disk.specs.Calls.{KeepsDevice};
-ghost use Rattle.td_disk.specs.Disk.{IsDurable};
-ghost use Rattle.td_gate.specs.CrashSafe.{CrashSafe};
-ghost use Rattle.td_gate.specs.Region.{IsSettled, IsOpen, Puts};
+ghost use Rattle.td_gate.specs.Steps.{HasPut, SameUnless};
 ghost use Rattle.td_plan.specs.Lines.{text_of};
 ghost use Rattle.td_head.specs.Head.{head_bytes, raised, raised_bytes};
+ghost use Rattle.td_head.specs.HeadError.{IsMemoryOrDevice, IsRaiseRefusal};
 ghost use Rattle.td_head.specs.Layout.{head, head_a, size_of};
 
 use crate::error::HeadError;
@@ -54,14 +53,10 @@ fn put_head<D: Disk>(
 ) -> Result<(), HeadError>
     requires which { side ≤ 1 }
     requires room { 8258 ≤ (D.view device.old).capacity }
-    ensures refusals { IfErr result (λ e. (e ≡ HeadError.Memory) ⊎ (e ≡ HeadError.Device)) }
-    ensures untouched { IfErr result (λ e. (e ≡ HeadError.Device) ⊎ (device.new ≡ device.old)) }
+    ensures refusals { IfErr result IsMemoryOrDevice }
+    ensures untouched { IfErr result (λ e. SameUnless HeadError.Device e device.old device.new) }
     ensures device { KeepsDevice D.view HeadError.Device result device.old device.new }
-    ensures crash_safe { (D.view device.old).lawful → IsSettled (head side) (D.view device.old).state
-        → CrashSafe (Puts (head side) (head_bytes 2 generation shape (text_of plan.now))) (D.view device.old).state (D.view device.new).state }
-    ensures open { OnOk result ((D.view device.old).lawful → IsSettled (head side) (D.view device.old).state
-        → IsOpen (head side) (head_bytes 2 generation shape (text_of plan.now)) (D.view device.new).state) }
-    ensures durable { OnOk result ((D.view device.old).lawful → IsDurable (D.view device.new).state) }
+    ensures put { HasPut D.view (head side) (head_bytes 2 generation shape (text_of plan.now)) result device.old device.new }
 {
     td_plan::laws::canonical_text();
     let Ok(text) = plan.text() else {
@@ -81,16 +76,10 @@ pub fn put_first<D: Disk>(
     shape: Shape,
 ) -> Result<(), HeadError>
     requires room { size_of shape ≤ (D.view device.old).capacity }
-    ensures refusals { IfErr result (λ e. (e ≡ HeadError.Memory) ⊎ (e ≡ HeadError.Device)) }
-    ensures untouched { IfErr result (λ e. (e ≡ HeadError.Device) ⊎ (device.new ≡ device.old)) }
+    ensures refusals { IfErr result IsMemoryOrDevice }
+    ensures untouched { IfErr result (λ e. SameUnless HeadError.Device e device.old device.new) }
     ensures device { KeepsDevice D.view HeadError.Device result device.old device.new }
-
-    // Where it answers Ok or Device: each image since the start of the call, by the image before.
-    ensures crash_safe { (D.view device.old).lawful → IsSettled head_a (D.view device.old).state
-        → CrashSafe (Puts head_a (head_bytes 2 1 shape (text_of plan.now))) (D.view device.old).state (D.view device.new).state }
-    ensures open { OnOk result ((D.view device.old).lawful → IsSettled head_a (D.view device.old).state
-        → IsOpen head_a (head_bytes 2 1 shape (text_of plan.now)) (D.view device.new).state) }
-    ensures durable { OnOk result ((D.view device.old).lawful → IsDurable (D.view device.new).state) }
+    ensures put { HasPut D.view head_a (head_bytes 2 1 shape (text_of plan.now)) result device.old device.new }
 {
     put_head(alloc, device, 0, 1, plan, shape)
 }
@@ -110,16 +99,10 @@ pub fn raise<D: Disk>(
     requires room { size_of old.now.shape ≤ (D.view device.old).capacity }
     ensures last { IsErrOf result HeadError.LastGeneration ↔ (old.now.generation ≡ 2 ^ 64 - 1) }
     ensures raised { IfOk result (λ h. h ≡ raised old.now) }
-    ensures refusals { IfErr result (λ e. (e ≡ HeadError.LastGeneration) ⊎ ((e ≡ HeadError.Memory) ⊎ (e ≡ HeadError.Device))) }
-    ensures untouched { IfErr result (λ e. (e ≡ HeadError.Device) ⊎ (device.new ≡ device.old)) }
+    ensures refusals { IfErr result IsRaiseRefusal }
+    ensures untouched { IfErr result (λ e. SameUnless HeadError.Device e device.old device.new) }
     ensures device { KeepsDevice D.view HeadError.Device result device.old device.new }
-
-    // Where it answers Ok or Device: each image since the start of the call, by the image before.
-    ensures crash_safe { (D.view device.old).lawful → IsSettled (head (1 - old.now.side)) (D.view device.old).state
-        → CrashSafe (Puts (head (1 - old.now.side)) (raised_bytes old.now plan.now)) (D.view device.old).state (D.view device.new).state }
-    ensures open { OnOk result ((D.view device.old).lawful → IsSettled (head (1 - old.now.side)) (D.view device.old).state
-        → IsOpen (head (1 - old.now.side)) (raised_bytes old.now plan.now) (D.view device.new).state) }
-    ensures durable { OnOk result ((D.view device.old).lawful → IsDurable (D.view device.new).state) }
+    ensures put { HasPut D.view (head (1 - old.now.side)) (raised_bytes old.now plan.now) result device.old device.new }
 {
     if old.generation == u64::MAX {
         return Err(HeadError::LastGeneration);

@@ -5,4 +5,5 @@ pub mod Cell
 pub mod Ring
 pub mod Images
 pub mod Parsed
+pub mod Steps
 pub mod Examples

@@ -1,16 +1,17 @@
 //! A ring of cells.
-ghost use Rattle.std.specs.Prelude.{◌≡◌, ◌⊎◌, ◌↔◌, ◌+◌, ◌-◌, ◌^◌, ◌<◌, ◌≤◌, length, true, All, OnOk, IfOk, IfErr, IfSome, IsErrOf, IsTrue};
+ghost use Rattle.std.specs.Prelude.{◌≡◌, ◌↔◌, ◌+◌, ◌-◌, ◌^◌, ◌<◌, ◌≤◌, length, OnOk, IfOk, IfErr, IfSome, IsErrOf, IsTrue};
 ghost use Rattle.td_disk.specs.Calls.{KeepsDevice};
-ghost use Rattle.td_disk.specs.Disk.{CountsDevice, IsDurable};
-ghost use Rattle.td_gate.specs.CrashSafe.{CrashSafe, Unchanged};
+ghost use Rattle.td_disk.specs.Disk.{CountsDevice};
 ghost use Rattle.td_gate.specs.Reads.{IsRead};
 ghost use Rattle.td_gate.specs.Reading.{Each};
-ghost use Rattle.td_gate.specs.Region.{IsSettled, IsOpen, Puts};
-ghost use Rattle.td_journal.specs.Cell.{cell_of, cell_len, ring_len, cell_bytes, is_batch, FitsEntry};
+ghost use Rattle.td_gate.specs.Steps.{WritesNothing, ReadsAsBefore, StaysDurable};
+ghost use Rattle.td_journal.specs.Cell.{cell_of, cell_len, ring_len, cell_bytes, FitsEntry};
 ghost use Rattle.td_journal.specs.Counts.{counts_of};
-ghost use Rattle.td_journal.specs.Images.{Clears, IsGone};
-ghost use Rattle.td_journal.specs.Ring.{found, told_after};
-ghost use Rattle.td_journal.specs.Parsed.{AreKept, IsKept, IsDamage, Told, Refused};
+ghost use Rattle.td_journal.specs.Ring.{found};
+ghost use Rattle.td_journal.specs.Parsed.{IsKept, IsDamage, Told};
+ghost use Rattle.td_journal.specs.Refusals.{IsFailureOr, IsMemory, IsMemoryOrDevice};
+ghost use Rattle.td_journal.specs.Steps.{IsRing, MayReadFrom, FitsRing, MayBeTold, RingTells, RingRefuses, IsKeptOfRing};
+ghost use Rattle.td_journal.specs.Steps.{ClearsSafely, LeavesGone, PutsEpoch, RefusesAppend};
 
 use crate::error::JournalError;
 use crate::keeping::{Counting, Keeping};
@@ -45,8 +46,7 @@ impl Journal {
 
     /// The cell of an epoch.
     pub fn cell_of(&self, epoch: u64) -> Region
-        requires cells { 0 < self.now.n }
-        requires records { self.now.m ≤ 65536 }
+        requires ring { IsRing self.now }
         requires room { self.now.at + ring_len self.now.m self.now.n < 2 ^ 64 }
         ensures region { result ≡ cell_of self.now epoch }
         ensures within { result.at + result.len + 1 ≤ self.now.at + ring_len self.now.m self.now.n }
@@ -89,21 +89,15 @@ impl Journal {
         device: &mut D,
         epoch: u64,
     ) -> Result<(), JournalError>
-        requires cells { 0 < self.now.n }
-        requires records { self.now.m ≤ 65536 }
+        requires ring { IsRing self.now }
         requires room { self.now.at + ring_len self.now.m self.now.n ≤ (D.view device.old).capacity }
-        ensures refusals { IfErr result (λ e. (e ≡ JournalError.Memory) ⊎ (e ≡ JournalError.Device)) }
+        ensures refusals { IfErr result IsMemoryOrDevice }
         ensures device { KeepsDevice D.view JournalError.Device result device.old device.new }
-        ensures crash_safe { (D.view device.old).lawful → IsSettled (cell_of self.now epoch) (D.view device.old).state
-            → CrashSafe (Clears self.now epoch) (D.view device.old).state (D.view device.new).state }
-        ensures unwritten { IsErrOf result JournalError.Memory → (D.view device.old).lawful
-            → CrashSafe Unchanged (D.view device.old).state (D.view device.new).state }
-        ensures same { IsErrOf result JournalError.Memory → (D.view device.old).lawful
-            → (D.view device.new).state.bytes ≡ (D.view device.old).state.bytes }
-        ensures durable { IfErr result (λ e. e ≡ JournalError.Memory) → (D.view device.old).lawful
-            → IsDurable (D.view device.old).state → IsDurable (D.view device.new).state }
-        ensures gone { OnOk result ((D.view device.old).lawful → IsSettled (cell_of self.now epoch) (D.view device.old).state
-            → IsGone self.now epoch (D.view device.new).state) }
+        ensures crash_safe { ClearsSafely D.view self.now epoch device.old device.new }
+        ensures unwritten { IsErrOf result JournalError.Memory → WritesNothing D.view device.old device.new }
+        ensures same { IsErrOf result JournalError.Memory → ReadsAsBefore D.view device.old device.new }
+        ensures durable { IfErr result IsMemory → StaysDurable D.view device.old device.new }
+        ensures gone { OnOk result (LeavesGone D.view self.now epoch device.old device.new) }
     {
         if EPOCHS_END <= epoch {
             return Ok(());
@@ -132,15 +126,14 @@ impl Journal {
         epoch: u64,
         bytes: &mut [u8],
     ) -> Result<Option<K::Kept>, JournalError>
-        requires cells { 0 < self.now.n }
-        requires records { self.now.m ≤ 65536 }
+        requires ring { IsRing self.now }
         requires room { self.now.at + ring_len self.now.m self.now.n ≤ (D.view device.old).capacity }
         requires len { length bytes.old ≡ cell_len self.now.m + 1 }
         ensures found { IfOk result (λ kept. IsKept K.kept_of inputs.now
             (λ f. (D.view device.old).lawful → found inputs.now self.now (D.view device.old).state.bytes floor epoch ≡ f) kept) }
         ensures small { IfOk result (λ kept. IfSome kept (λ _. epoch < 2 ^ 63)) }
-        ensures refused { IfErr result (λ e. (e ≡ JournalError.Device) ⊎ ((e ≡ JournalError.Memory) ⊎ ((D.view device.old).lawful
-            → IsDamage e (found inputs.now self.now (D.view device.old).state.bytes floor epoch)))) }
+        ensures refused { IfErr result (λ e. IsFailureOr ((D.view device.old).lawful
+            → IsDamage e (found inputs.now self.now (D.view device.old).state.bytes floor epoch)) e) }
         ensures failures { CountsDevice result JournalError.Device (D.view device.old).failures (D.view device.new).failures }
         ensures read { IsRead D.view device.old device.new }
     {
@@ -174,17 +167,11 @@ impl Journal {
         checkpoint: u64,
         floor: Option<u64>,
     ) -> Result<Vec<K::Kept>, JournalError>
-        requires cells { 0 < self.now.n }
-        requires few { self.now.n ≤ 65536 }
-        requires records { self.now.m ≤ 65536 }
+        requires ring { MayReadFrom self.now checkpoint }
         requires room { self.now.at + ring_len self.now.m self.now.n ≤ (D.view device.old).capacity }
-        requires small { checkpoint < 2 ^ 63 }
-        ensures told { IfOk result (λ kept. AreKept K.kept_of inputs.now
-            (λ w. (D.view device.old).lawful → told_after inputs.now self.now (D.view device.old).state.bytes floor checkpoint ≡ Told w) kept.items) }
-        ensures few_told { IfOk result (λ kept. length kept.items ≤ self.now.n) }
-        ensures below { IfOk result (λ kept. checkpoint + length kept.items < 2 ^ 63) }
-        ensures refused { IfErr result (λ e. (e ≡ JournalError.Device) ⊎ ((e ≡ JournalError.Memory) ⊎ ((D.view device.old).lawful
-            → told_after inputs.now self.now (D.view device.old).state.bytes floor checkpoint ≡ Refused e))) }
+        ensures told { IfOk result (λ kept. IsKeptOfRing D.view K.kept_of inputs.now self.now floor checkpoint kept.items device.old) }
+        ensures fits { IfOk result (λ kept. FitsRing self.now checkpoint (length kept.items)) }
+        ensures refused { IfErr result (λ e. RingRefuses D.view inputs.now self.now floor checkpoint e device.old) }
         ensures failures { CountsDevice result JournalError.Device (D.view device.old).failures (D.view device.new).failures }
         ensures read { IsRead D.view device.old device.new }
     {
@@ -222,19 +209,11 @@ impl Journal {
         checkpoint: u64,
         floor: Option<u64>,
     ) -> Result<Vec<Submitted>, JournalError>
-        requires cells { 0 < self.now.n }
-        requires few { self.now.n ≤ 65536 }
-        requires records { self.now.m ≤ 65536 }
+        requires ring { MayReadFrom self.now checkpoint }
         requires room { self.now.at + ring_len self.now.m self.now.n ≤ (D.view device.old).capacity }
-        requires small { checkpoint < 2 ^ 63 }
-        ensures told { IfOk result (λ w. (D.view device.old).lawful → told_after inputs.now self.now (D.view device.old).state.bytes floor checkpoint ≡ Told w.items) }
-
-        // Whatever the disk, what is read may be told: lawful batches, no more than cells, of epochs that are looked for.
-        ensures batches { IfOk result (λ w. All (λ s. is_batch inputs.now s.batch ≡ true) w.items) }
-        ensures few_told { IfOk result (λ w. length w.items ≤ self.now.n) }
-        ensures below { IfOk result (λ w. checkpoint + length w.items < 2 ^ 63) }
-        ensures refused { IfErr result (λ e. (e ≡ JournalError.Device) ⊎ ((e ≡ JournalError.Memory) ⊎ ((D.view device.old).lawful
-            → told_after inputs.now self.now (D.view device.old).state.bytes floor checkpoint ≡ Refused e))) }
+        ensures told { IfOk result (λ w. RingTells D.view inputs.now self.now floor checkpoint (Told w.items) device.old) }
+        ensures may_be { IfOk result (λ w. MayBeTold inputs.now self.now checkpoint w.items) }
+        ensures refused { IfErr result (λ e. RingRefuses D.view inputs.now self.now floor checkpoint e device.old) }
         ensures failures { CountsDevice result JournalError.Device (D.view device.old).failures (D.view device.new).failures }
         ensures read { IsRead D.view device.old device.new }
     {
@@ -251,17 +230,11 @@ impl Journal {
         checkpoint: u64,
         floor: Option<u64>,
     ) -> Result<Vec<Counts>, JournalError>
-        requires cells { 0 < self.now.n }
-        requires few { self.now.n ≤ 65536 }
-        requires records { self.now.m ≤ 65536 }
+        requires ring { MayReadFrom self.now checkpoint }
         requires room { self.now.at + ring_len self.now.m self.now.n ≤ (D.view device.old).capacity }
-        requires small { checkpoint < 2 ^ 63 }
-        ensures told { IfOk result (λ counts. AreKept counts_of inputs.now
-            (λ w. (D.view device.old).lawful → told_after inputs.now self.now (D.view device.old).state.bytes floor checkpoint ≡ Told w) counts.items) }
-        ensures few_told { IfOk result (λ counts. length counts.items ≤ self.now.n) }
-        ensures below { IfOk result (λ counts. checkpoint + length counts.items < 2 ^ 63) }
-        ensures refused { IfErr result (λ e. (e ≡ JournalError.Device) ⊎ ((e ≡ JournalError.Memory) ⊎ ((D.view device.old).lawful
-            → told_after inputs.now self.now (D.view device.old).state.bytes floor checkpoint ≡ Refused e))) }
+        ensures told { IfOk result (λ w. IsKeptOfRing D.view counts_of inputs.now self.now floor checkpoint w.items device.old) }
+        ensures fits { IfOk result (λ w. FitsRing self.now checkpoint (length w.items)) }
+        ensures refused { IfErr result (λ e. RingRefuses D.view inputs.now self.now floor checkpoint e device.old) }
         ensures failures { CountsDevice result JournalError.Device (D.view device.old).failures (D.view device.new).failures }
         ensures read { IsRead D.view device.old device.new }
     {
@@ -292,24 +265,13 @@ impl Journal {
         request: u64,
         batch: &Batch,
     ) -> Result<(), JournalError>
-        requires cells { 0 < self.now.n }
-        requires records { self.now.m ≤ 65536 }
+        requires ring { IsRing self.now }
         requires room { self.now.at + ring_len self.now.m self.now.n ≤ (D.view device.old).capacity }
         requires later { self.now.kept < epoch }
-        requires small { epoch < 2 ^ 63 }
-        ensures full { IsErrOf result JournalError.Full ↔ (self.now.n < epoch - self.now.kept) }
-        ensures too_many { IsErrOf result JournalError.TooManyRecords ↔ ((epoch - self.now.kept ≤ self.now.n) × (self.now.m < length batch.now)) }
-        ensures refusals { IfErr result (λ e. (e ≡ JournalError.Full) ⊎ (e ≡ JournalError.TooManyRecords) ⊎ (e ≡ JournalError.Memory) ⊎ (e ≡ JournalError.Device)) }
-        ensures untouched { IfErr result (λ e. (e ≡ JournalError.Device) ⊎ (device.new ≡ device.old)) }
+        ensures refused { RefusesAppend self.now epoch batch.now result device.old device.new }
         ensures device { KeepsDevice D.view JournalError.Device result device.old device.new }
         ensures few { OnOk result (length batch.now ≤ self.now.m) }
-
-        // Where it answers Ok or Device: each image since the start of the call, by the image before.
-        ensures crash_safe { (D.view device.old).lawful → IsSettled (cell_of self.now epoch) (D.view device.old).state
-            → CrashSafe (Puts (cell_of self.now epoch) (cell_bytes self.now.m epoch request batch.now)) (D.view device.old).state (D.view device.new).state }
-        ensures open { OnOk result ((D.view device.old).lawful → IsSettled (cell_of self.now epoch) (D.view device.old).state
-            → IsOpen (cell_of self.now epoch) (cell_bytes self.now.m epoch request batch.now) (D.view device.new).state) }
-        ensures durable { OnOk result ((D.view device.old).lawful → IsDurable (D.view device.new).state) }
+        ensures put { PutsEpoch D.view self.now epoch request batch.now result device.old device.new }
     {
         if self.is_full(epoch) {
             return Err(JournalError::Full);

@@ -4,3 +4,4 @@ pub mod Newest
 pub mod Images
 pub mod Parsed
 pub mod Examples
+pub mod Steps

@@ -1,5 +1,5 @@
 -- The refusals of slots.
-use Rattle.std.specs.Prelude.{ℕ}
+use Rattle.std.specs.Prelude.{◌≡◌, ◌⊎◌, ℕ}
 use Rattle.td_gate.specs.declared.error.GateError.{GateError}
 use Rattle.td_gate.specs.declared.error.GateError.TheVariants as gate
 use Rattle.td_slots.specs.declared.error.SlotsError.{SlotsError}
@@ -17,3 +17,11 @@ number_of Memory = 5
 abbrev pub of_gate : GateError → SlotsError
 of_gate gate.Device = Device
 of_gate gate.Memory = Memory
+
+-- the device failed, memory ran out, or else this holds
+abbrev pub IsFailureOr : Type 0 → SlotsError → Type 0
+IsFailureOr other e = (e ≡ Device) ⊎ ((e ≡ Memory) ⊎ other)
+
+-- what a call that writes may refuse
+abbrev pub IsWriteRefusal : SlotsError → Type 0
+IsWriteRefusal e = (e ≡ TooManyKeys) ⊎ ((e ≡ Memory) ⊎ (e ≡ Device))

@@ -1,14 +1,14 @@
 // Two slots.
-ghost use Rattle.std.specs.Prelude.{◌≡◌, ◌⊎◌, ◌↔◌, ◌+◌, ◌-◌, ◌*◌, ◌^◌, ◌<◌, ◌≤◌, length, true, OnOk, IfOk, IfErr, IsErrOf};
+ghost use Rattle.std.specs.Prelude.{◌≡◌, ◌+◌, ◌-◌, ◌*◌, ◌^◌, ◌<◌, ◌≤◌, IfOk, IfErr};
 ghost use Rattle.td_disk.specs.Calls.{KeepsDevice};
-ghost use Rattle.td_disk.specs.Disk.{CountsDevice, IsDurable};
-ghost use Rattle.td_gate.specs.CrashSafe.{CrashSafe};
+ghost use Rattle.td_disk.specs.Disk.{CountsDevice};
 ghost use Rattle.td_gate.specs.Reads.{IsRead};
-ghost use Rattle.td_gate.specs.Reading.{Each};
-ghost use Rattle.td_gate.specs.Region.{opened, payload_of, HasLength, IsSettled, IsOpen, Puts};
-ghost use Rattle.td_slots.specs.Slot.{slot, slot_len, slot_bytes, is_last, are_states, FitsState};
-ghost use Rattle.td_slots.specs.Newest.{newest};
-ghost use Rattle.td_slots.specs.Parsed.{newer_of, chosen_of, AtLeast, IsValid, IsDamaged, Told, Refused};
+ghost use Rattle.td_gate.specs.Region.{opened, payload_of, HasLength};
+ghost use Rattle.td_gate.specs.Steps.{IsFound};
+ghost use Rattle.td_slots.specs.Slot.{slot, slot_len};
+ghost use Rattle.td_slots.specs.SlotsError.{IsFailureOr};
+ghost use Rattle.td_slots.specs.Parsed.{newer_of, chosen_of, AtLeast, IsValid, IsDamaged, Told};
+ghost use Rattle.td_slots.specs.Steps.{HasSlots, MayBeHeld, SlotsTell, SlotsRefuse, PutsStates, RefusesStates, StatesFit};
 
 use crate::error::SlotsError;
 use crate::parse::{is_slot, states_of};
@@ -86,26 +86,12 @@ impl Slots {
         last: u64,
         states: &OrderedStates,
     ) -> Result<(), SlotsError>
+        requires slots { HasSlots self.now (D.view device.old).capacity }
         requires which { newest ≤ 1 }
-        requires limit { self.now.k ≤ 1048576 }
-        requires room { self.now.at + 2 * (slot_len self.now.k + 1) ≤ (D.view device.old).capacity }
-        requires small { epoch < 2 ^ 63 }
-        ensures too_many { IsErrOf result SlotsError.TooManyKeys ↔ (self.now.k < length states.now) }
-        ensures refusals { IfErr result (λ e.
-            (e ≡ SlotsError.TooManyKeys) ⊎ (e ≡ SlotsError.Memory) ⊎ (e ≡ SlotsError.Device)) }
-        ensures untouched { IfErr result (λ e. (e ≡ SlotsError.Device) ⊎ (device.new ≡ device.old)) }
+        ensures refused { RefusesStates self.now.k states.now result device.old device.new }
         ensures device { KeepsDevice D.view SlotsError.Device result device.old device.new }
-        ensures few { OnOk result (length states.now ≤ self.now.k) }
-        ensures fits { OnOk result (Each FitsState states.now) }
-        ensures fits_too { IsErrOf result SlotsError.Device → Each FitsState states.now }
-
-        // Where it answers Ok or Device: each image since the start of the call, by the image before.
-        ensures crash_safe { (D.view device.old).lawful → IsSettled (slot self.now (1 - newest)) (D.view device.old).state
-            → CrashSafe (Puts (slot self.now (1 - newest)) (slot_bytes self.now.k epoch last states.now))
-            (D.view device.old).state (D.view device.new).state }
-        ensures open { OnOk result ((D.view device.old).lawful → IsSettled (slot self.now (1 - newest)) (D.view device.old).state
-            → IsOpen (slot self.now (1 - newest)) (slot_bytes self.now.k epoch last states.now) (D.view device.new).state) }
-        ensures durable { OnOk result ((D.view device.old).lawful → IsDurable (D.view device.new).state) }
+        ensures fits { StatesFit self.now.k states.now result }
+        ensures put { PutsStates D.view self.now newest epoch last states.now result device.old device.new }
     {
         if (self.k as usize) < states.len() {
             return Err(SlotsError::TooManyKeys);
@@ -130,12 +116,11 @@ impl Slots {
         requires which { side ≤ 1 }
         requires limit { self.now.k ≤ 1048576 }
         requires room { self.now.at + 2 * (slot_len self.now.k + 1) ≤ (D.view device.old).capacity }
-        ensures found { IfOk result (λ p. (D.view device.old).lawful
-            → payload_of p ≡ opened (slot self.now side) (D.view device.old).state.bytes) }
+        ensures found { IfOk result (λ p. IsFound D.view (opened (slot self.now side)) (payload_of p) device.old) }
         ensures valid { IfOk result (λ p. IsValid version folds.now self.now.k p) }
         ensures len { IfOk result (λ p. HasLength p (slot_len self.now.k)) }
-        ensures refused { IfErr result (λ e. (e ≡ SlotsError.Device) ⊎ ((e ≡ SlotsError.Memory) ⊎ ((D.view device.old).lawful
-            → IsDamaged version folds.now self.now.k side (opened (slot self.now side) (D.view device.old).state.bytes) e))) }
+        ensures refused { IfErr result (λ e. IsFailureOr ((D.view device.old).lawful
+            → IsDamaged version folds.now self.now.k side (opened (slot self.now side) (D.view device.old).state.bytes) e) e) }
         ensures failures { CountsDevice result SlotsError.Device (D.view device.old).failures (D.view device.new).failures }
         ensures read { IsRead D.view device.old device.new }
     {
@@ -165,16 +150,10 @@ impl Slots {
         version: u32,
         folds: &[u8],
     ) -> Result<Checkpoint, SlotsError>
-        requires limit { self.now.k ≤ 1048576 }
-        requires room { self.now.at + 2 * (slot_len self.now.k + 1) ≤ (D.view device.old).capacity }
-        ensures told { IfOk result (λ c. (D.view device.old).lawful
-            → newest version folds.now self.now (D.view device.old).state.bytes ≡ Told c) }
-        ensures refused { IfErr result (λ e. (e ≡ SlotsError.Device) ⊎ ((e ≡ SlotsError.Memory) ⊎ ((D.view device.old).lawful
-            → newest version folds.now self.now (D.view device.old).state.bytes ≡ Refused e))) }
-        ensures slot { IfOk result (λ c. c.slot ≤ 1) }
-        ensures small { IfOk result (λ c. c.epoch < 2 ^ 63) }
-        ensures last { IfOk result (λ c. is_last version c.last ≡ true) }
-        ensures states { IfOk result (λ c. are_states folds.now c.states ≡ true) }
+        requires slots { HasSlots self.now (D.view device.old).capacity }
+        ensures told { IfOk result (λ c. SlotsTell D.view version folds.now self.now (Told c) device.old) }
+        ensures refused { IfErr result (λ e. SlotsRefuse D.view version folds.now self.now e device.old) }
+        ensures may_be { IfOk result (λ c. MayBeHeld version folds.now c) }
         ensures failures { CountsDevice result SlotsError.Device (D.view device.old).failures (D.view device.new).failures }
         ensures read { IsRead D.view device.old device.new }
     {

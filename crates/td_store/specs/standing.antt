@@ -3,6 +3,7 @@ pub mod Standing
 pub mod Told
 pub mod Stops
 pub mod Tells
+pub mod Safe
 pub mod Steps
 pub mod Advanced
 pub mod Read

@@ -13,7 +13,7 @@ use Rattle.td_store.specs.declared.copy.error.CopyError.{CopyError}
 use Rattle.td_store.specs.declared.copy.error.CopyError.TheVariants.{Shape, Formatted, Keeper, New}
 use Rattle.td_store.specs.copy.Room.{room_fault}
 use Rattle.td_store.specs.copy.Until.{told_until, copy_fault}
-use Rattle.td_store.specs.copy.Copied.{HasNoHead}
+use Rattle.td_store.specs.copy.Copied.{EachTold, HasNoHead}
 
 -- WHAT A DISK REFUSES OF A READER: a call of it failed and was counted, memory ran out, or it tells this refusal, as it reads after a sync.
 abbrev pub IsNotRead : List Line → Type 0 → DiskState → ℕ → ℕ → KeeperError → Type 0
@@ -38,3 +38,10 @@ IsNotCopied {E} gives is_not_read is_told makes is_not_put until sizes x =
     ⊎ ((s : Standing) × is_told s × (((e : CopyError) × gives e x × (copy_fault until sizes s ≡ Some e))
     ⊎ ((copy_fault until sizes s ≡ None) × (makes (Err x)
     ⊎ ((made left : E) × makes (Ok made) × ((e : CopyError) × gives e x × is_not_put sizes (told_until until s) made left e))))))
+
+-- the same, of the calls of a copy: the old disk before it and after, and what makes the new one
+abbrev pub RefusesCopy : {D E X : Type 0} → (D → DiskView) → (E → DiskView) → (CopyError → X → Type 0) → (Result E X → Type 0)
+    → List Line → Option ℕ → Sizes → D → D → X → Type 0
+RefusesCopy view new_view gives makes plan until sizes old left x =
+    IsNotCopied gives (IsNotRead plan (view old).lawful (view left).state (view old).failures (view left).failures)
+        (λ s. (view old).lawful → EachTold plan s (view left).state) makes (IsNotPut new_view) until sizes x

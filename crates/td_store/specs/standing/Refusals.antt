@@ -1,5 +1,5 @@
 -- The refusals of a keeper: their numbers, their texts, and those of a disk's parts as a keeper gives them.
-use Rattle.std.specs.Prelude.{ℕ, List, ◌++◌, codes}
+use Rattle.std.specs.Prelude.{◌≡◌, ◌⊎◌, ℕ, List, ◌++◌, codes}
 use Rattle.std.specs.Fmt.{decimal}
 use Rattle.td_head.specs.declared.error.HeadError.{HeadError}
 use Rattle.td_head.specs.declared.error.HeadError.TheVariants as head
@@ -78,3 +78,11 @@ refusal_text Memory = codes "memory"
 refusal_text Epochs = codes "no more epochs"
 refusal_text OldVersion = codes "old version"
 refusal_text LastGeneration = codes "last generation"
+
+-- memory ran out, or the device failed
+abbrev pub IsMemoryOrDevice : KeeperError → Type 0
+IsMemoryOrDevice e = (e ≡ Memory) ⊎ (e ≡ Device)
+
+-- the device failed, memory ran out, or else this holds
+abbrev pub IsFailureOr : Type 0 → KeeperError → Type 0
+IsFailureOr other e = (e ≡ Device) ⊎ ((e ≡ Memory) ⊎ other)

@@ -1,11 +1,8 @@
 //! Copying a disk. A disk with a head is refused, since nobody can mean to lose it.
-ghost use Rattle.std.specs.Prelude.{◌≡◌, ◌↔◌, None, IfErr, IfOk};
-ghost use Rattle.td_gate.specs.CrashSafe.{CrashSafe, Unchanged};
-ghost use Rattle.td_store.specs.standing.Standing.{Standing};
-ghost use Rattle.td_store.specs.standing.Tells.{Keeps, first_head};
-ghost use Rattle.td_store.specs.copy.Copied.{EachTold};
-ghost use Rattle.td_store.specs.copy.Until.{copy_fault, told_until};
-ghost use Rattle.td_store.specs.copy.Refusals.{IsNotCopied, IsNotPut, IsNotRead};
+ghost use Rattle.std.specs.Prelude.{◌≡◌, ◌↔◌, IfErr, IfOk};
+ghost use Rattle.td_gate.specs.Steps.{WritesNothing};
+ghost use Rattle.td_store.specs.copy.Copied.{CopiesTold};
+ghost use Rattle.td_store.specs.copy.Refusals.{RefusesCopy};
 
 use crate::copy::error::CopyError;
 use crate::copy::room::check_room;
@@ -35,16 +32,13 @@ pub fn copy<D: Disk, E: Disk + Drop, X: From<CopyError>, F: FnOnce() -> Result<E
     ensures lawful { (D.view disk.old).lawful ↔ (D.view disk.new).lawful }
 
     // THE NEW DISK TELLS WHAT THE OLD ONE TELLS up to that epoch, whatever a crash leaves of them; it has a head of this shape.
-    ensures copied { IfOk result (λ new. (D.view disk.old).lawful → (E.view new).lawful
-        → (s : Standing) × EachTold plan.now s (D.view disk.new).state
-        × (copy_fault until shape s ≡ None) × Keeps plan.now (first_head shape) 0 (told_until until s) (E.view new).state) }
+    ensures copied { IfOk result (λ new. CopiesTold D.view E.view plan.now until shape disk.old disk.new new) }
 
     // REFUSED, in this order: what the old disk refuses, what there is no room for, what `make` answers, what the disk that it made refuses.
-    ensures refused { IfErr result (λ x. IsNotCopied X.from_gives (IsNotRead plan.now (D.view disk.old).lawful (D.view disk.new).state (D.view disk.old).failures (D.view disk.new).failures)
-        (λ s. (D.view disk.old).lawful → EachTold plan.now s (D.view disk.new).state) (F.post make) (IsNotPut E.view) until shape x) }
+    ensures refused { IfErr result (λ x. RefusesCopy D.view E.view X.from_gives (F.post make) plan.now until shape disk.old disk.new x) }
 
     // The old disk stays as it is.
-    ensures crash_safe { (D.view disk.old).lawful → CrashSafe Unchanged (D.view disk.old).state (D.view disk.new).state }
+    ensures crash_safe { WritesNothing D.view disk.old disk.new }
 {
     laws::told_in_parts();
     td_journal::laws::numbers();

@@ -2,13 +2,14 @@
 //!
 //! Nothing is told before the head is there, so all cells but the last are written as they are, and one sync serves them all. The last one
 //! is put as a keeper puts its cells: where the journal is full, the cell behind it is that of the first epoch.
-ghost use Rattle.std.specs.Prelude.{◌≡◌, ◌⊎◌, ◌↔◌, ◌+◌, ◌^◌, ◌<◌, ◌≤◌, [], ◌∷◌, true, All, List, ℕ, length, OnOk, IfErr, IsErrOf};
+ghost use Rattle.std.specs.Prelude.{◌≡◌, ◌⊎◌, ◌+◌, ◌^◌, ◌<◌, ◌≤◌, [], ◌∷◌, true, All, List, ℕ, length, OnOk, IfErr};
 ghost use Rattle.td_disk.specs.Calls.{KeepsDevice};
 ghost use Rattle.td_plan.specs.Lines.{Line};
 ghost use Rattle.td_disk.specs.Disk.{IsDurable};
 ghost use Rattle.td_head.specs.Layout.{Sizes};
 ghost use Rattle.td_gate.specs.Reading.{Each};
 ghost use Rattle.td_gate.specs.Regions.{Replaces};
+ghost use Rattle.td_journal.specs.Steps.{IsRing};
 ghost use Rattle.td_journal.specs.Cell.{cell_of, cell_bytes, ring_len, is_batch, FitsEntry};
 ghost use Rattle.td_journal.specs.Numbers.{rise};
 ghost use Rattle.td_store.specs.standing.Standing.{Standing, with_more};
@@ -30,8 +31,7 @@ fn put_epoch<D: Disk>(
     epoch: u64,
     submitted: &Submitted,
 ) -> Result<(), JournalError>
-    requires cells { 0 < journal.now.n }
-    requires records { journal.now.m ≤ 65536 }
+    requires ring { IsRing journal.now }
     requires room { journal.now.at + ring_len journal.now.m journal.now.n ≤ (D.view device.old).capacity }
     requires few { length submitted.now.batch ≤ journal.now.m }
     requires small { epoch < 2 ^ 63 }
@@ -71,8 +71,7 @@ fn write_epoch<D: Disk>(
     epoch: u64,
     submitted: &Submitted,
 ) -> Result<(), JournalError>
-    requires cells { 0 < journal.now.n }
-    requires records { journal.now.m ≤ 65536 }
+    requires ring { IsRing journal.now }
     requires room { journal.now.at + ring_len journal.now.m journal.now.n ≤ (D.view device.old).capacity }
     requires few { length submitted.now.batch ≤ journal.now.m }
     requires behind { 8258 ≤ journal.now.at }
@@ -100,8 +99,7 @@ fn write_epochs<D: Disk>(
     device: &mut D,
     submitted: &[Submitted],
 ) -> Result<(), JournalError>
-    requires cells { 0 < journal.now.n }
-    requires records { journal.now.m ≤ 65536 }
+    requires ring { IsRing journal.now }
     requires room { journal.now.at + ring_len journal.now.m journal.now.n ≤ (D.view device.old).capacity }
     requires few { All (λ x. length x.batch ≤ journal.now.m) submitted.now }
     requires small { journal.now.kept + length submitted.now < 2 ^ 63 }
@@ -138,8 +136,7 @@ pub(crate) fn put_epochs<D: Disk>(
     device: &mut D,
     submitted: &[Submitted],
 ) -> Result<(), JournalError>
-    requires cells { 0 < journal.now.n }
-    requires records { journal.now.m ≤ 65536 }
+    requires ring { IsRing journal.now }
     requires room { journal.now.at + ring_len journal.now.m journal.now.n ≤ (D.view device.old).capacity }
     requires few { All (λ x. length x.batch ≤ journal.now.m) submitted.now }
     requires small { journal.now.kept + length submitted.now < 2 ^ 63 }

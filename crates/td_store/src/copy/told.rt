@@ -2,23 +2,22 @@
 //!
 //! A copy is as a format leaves a disk: the checkpoint in slot 0, version 2, generation 1. Which slot and head the old disk uses,
 //! and what stands in parts that do not count, is not copied.
-ghost use Rattle.std.specs.Prelude.{◌≡◌, ◌⊎◌, ◌↔◌, ◌+◌, ◌*◌, ◌^◌, ◌<◌, ◌≤◌, [], ◌∷◌, true, false, All, List, ℕ, length, None, Some, OnOk, IfOk, IfErr, IsErrOf};
+ghost use Rattle.std.specs.Prelude.{◌≡◌, ◌⊎◌, ◌+◌, ◌^◌, ◌<◌, ◌≤◌, [], true, false, All, List, length, None, OnOk, IfOk, IfErr};
 ghost use Rattle.td_disk.specs.Calls.{Calls, KeepsDevice};
 ghost use Rattle.td_plan.specs.Lines.{Line};
 ghost use Rattle.td_disk.specs.Disk.{IsDurable};
 ghost use Rattle.td_gate.specs.CrashSafe.{CrashSafe, Unchanged};
 ghost use Rattle.td_gate.specs.Region.{opened};
-ghost use Rattle.td_head.specs.Layout.{Sizes, size_of};
+ghost use Rattle.td_head.specs.Layout.{size_of};
 ghost use Rattle.td_slots.specs.Slot.{slot, are_states};
-ghost use Rattle.td_journal.specs.Cell.{cell_of, is_batch};
-ghost use Rattle.td_journal.specs.Numbers.{rise};
-ghost use Rattle.td_store.specs.declared.standing.error.KeeperError.TheVariants.{Device, Memory, NotFormatted};
+ghost use Rattle.td_journal.specs.Cell.{is_batch};
+ghost use Rattle.td_store.specs.declared.standing.error.KeeperError.TheVariants.{Device, Memory};
 ghost use Rattle.td_store.specs.standing.Standing.{standing_from};
-ghost use Rattle.td_store.specs.standing.Told.{Told, inputs_of, folds_of, slots_of as slots_in, ring_of as ring_in};
+ghost use Rattle.td_store.specs.standing.Told.{inputs_of, folds_of, ring_of as ring_in};
 ghost use Rattle.td_store.specs.standing.Tells.{Tells, Keeps, TellsSince, first_head};
-ghost use Rattle.td_store.specs.standing.Read.{MayStand, standing_of, Stood, Refused};
-ghost use Rattle.td_store.specs.copy.Room.{room_fault, HasRoomFor};
-ghost use Rattle.td_store.specs.copy.Copied.{AreClosedAfter, HasNoHead, HasParts, OpensNoHead, IsRising};
+ghost use Rattle.td_store.specs.standing.Read.{MayStand, standing_of};
+ghost use Rattle.td_store.specs.copy.Room.{HasRoomFor};
+ghost use Rattle.td_store.specs.copy.Copied.{AreClosedAfter, HasNoHead, HasParts, OpensNoHead, IsRising, HasRoomOn, KeepsPut, TellsPutOrNothing};
 ghost use Rattle.td_store.specs.copy.Refusals.{IsNotPut};
 
 use crate::copy::epochs::put_epochs;
@@ -47,16 +46,14 @@ pub fn write_told<D: Disk>(
 ) -> Result<(), CopyError>
     requires { MayStand plan.now told.now.head told.now.checkpoint.slot (standing_of told.now) }
     ensures device { KeepsDevice D.view (CopyError.New Device) result device.old device.new }
-    ensures room { OnOk result ((room_fault shape (standing_of told.now) ≡ None) × (size_of shape ≤ (D.view device.old).capacity)) }
+    ensures room { OnOk result (HasRoomOn D.view shape (standing_of told.now) device.old) }
     ensures refused { IfErr result (λ e. IsNotPut D.view shape (standing_of told.now) device.old device.new e) }
 
     // After Ok a lawful disk tells what was read, whatever a crash leaves of it.
-    ensures copied { OnOk result ((D.view device.old).lawful → IsRising (standing_of told.now)
-        → Keeps plan.now (first_head shape) 0 (standing_of told.now) (D.view device.new).state) }
+    ensures copied { OnOk result (KeepsPut D.view plan.now shape (standing_of told.now) device.old device.new) }
 
     // WHEREVER IT STOPS, an image is one of before the call, or not formatted, or it tells what was read.
-    ensures stopped { (D.view device.old).lawful → IsRising (standing_of told.now)
-        → TellsSince (λ c. Told plan.now c (Refused NotFormatted)) (λ c. Told plan.now c (Stood (standing_of told.now))) (D.view device.old).state (D.view device.new).state }
+    ensures stopped { TellsPutOrNothing D.view plan.now (standing_of told.now) device.old device.new }
 {
     td_plan::laws::one_answer();
     crate::standing::laws::told_in_parts();

@@ -5,11 +5,12 @@
 //!
 //! Epochs that follow one another stand in neighbouring cells, up to the ring's end, and one write does for such a run. The first
 //! payload has a write of its own: one that goes on into the next cell goes over the first gate, and torn it could open that.
-ghost use Rattle.std.specs.Prelude.{◌≡◌, ◌⊎◌, ◌↔◌, ◌+◌, ◌-◌, ◌*◌, ◌%◌, ◌^◌, ◌<◌, ◌≤◌, ◌++◌, length, OnOk, IfOk, IfErr};
+ghost use Rattle.std.specs.Prelude.{◌≡◌, ◌+◌, ◌-◌, ◌*◌, ◌%◌, ◌^◌, ◌<◌, ◌≤◌, length, OnOk, IfOk, IfErr};
 ghost use Rattle.td_disk.specs.Calls.{Calls};
 ghost use Rattle.td_disk.specs.Disk.{IsDurable};
 ghost use Rattle.td_gate.specs.CrashSafe.{CrashSafe};
 ghost use Rattle.td_gate.specs.Region.{IsClosed, IsFilled};
+ghost use Rattle.td_journal.specs.Steps.{IsRing};
 ghost use Rattle.td_journal.specs.Cell.{cell_of, cell_len, ring_len};
 ghost use Rattle.td_store.specs.group.Groups.{gated, AllFew, AllFit, HasPieces, ChangesCells, Spares};
 ghost use Rattle.td_journal.specs.declared.error.JournalError.TheVariants.{Memory};
@@ -54,8 +55,7 @@ pub(crate) fn gated(
 
 /// How many bytes a cell has, its gate too.
 fn cell_size(journal: &Journal) -> usize
-    requires cells { 0 < journal.now.n }
-    requires records { journal.now.m ≤ 65536 }
+    requires ring { IsRing journal.now }
     requires room { journal.now.at + ring_len journal.now.m journal.now.n < 2 ^ 64 }
     ensures { result ≡ cell_len journal.now.m + 1 }
 {
@@ -80,8 +80,7 @@ fn write_run<D: Disk>(
     count: usize,
     bytes: &[u8],
 ) -> Result<(), Fault>
-    requires cells { 0 < journal.now.n }
-    requires records { journal.now.m ≤ 65536 }
+    requires ring { IsRing journal.now }
     requires room { journal.now.at + ring_len journal.now.m journal.now.n ≤ (D.view device.old).capacity }
     requires run { first % journal.now.n + count ≤ journal.now.n }
     requires whole { count * (cell_len journal.now.m + 1) ≤ length bytes.now }
@@ -110,8 +109,7 @@ fn write_cells<D: Disk>(
     count: usize,
     bytes: &[u8],
 ) -> Result<(), Fault>
-    requires cells { 0 < journal.now.n }
-    requires records { journal.now.m ≤ 65536 }
+    requires ring { IsRing journal.now }
     requires room { journal.now.at + ring_len journal.now.m journal.now.n ≤ (D.view device.old).capacity }
     requires few { count ≤ journal.now.n }
     requires whole { length bytes.now ≡ count * (cell_len journal.now.m + 1) }
@@ -148,8 +146,7 @@ pub(crate) fn fill_cells<D: Disk>(
     count: usize,
     written: Written<'_>,
 ) -> Result<(), Fault>
-    requires cells { 0 < journal.now.n }
-    requires records { journal.now.m ≤ 65536 }
+    requires ring { IsRing journal.now }
     requires room { journal.now.at + ring_len journal.now.m journal.now.n ≤ (D.view device.old).capacity }
     requires few { count + 1 ≤ journal.now.n }
     requires payload { length written.payload.now ≡ cell_len journal.now.m }

@@ -13,8 +13,9 @@ ghost use Rattle.td_gate.specs.CrashSafe.{CrashSafe, Unchanged};
 ghost use Rattle.td_gate.specs.Reads.{IsRead};
 ghost use Rattle.td_gate.specs.Region.{opened, IsSettled, Closes};
 ghost use Rattle.td_journal.specs.Cell.{ring_len};
+ghost use Rattle.td_journal.specs.Steps.{IsRing};
 ghost use Rattle.td_store.specs.group.Groups.{AreShut, ClosesSome};
-ghost use Rattle.td_store.specs.standing.Steps.{IsLater, WritesNothing, TellsAsBefore, KeepsAsBefore};
+ghost use Rattle.td_store.specs.standing.Steps.{ClosesFree, WritesOnlyIfOpen};
 
 use crate::group::laws;
 use td_disk::{Disk, Fault};
@@ -58,8 +59,7 @@ fn close_gates<D: Disk>(
     first: u64,
     count: u64,
 ) -> Result<bool, Fault>
-    requires cells { 0 < journal.now.n }
-    requires records { journal.now.m ≤ 65536 }
+    requires ring { IsRing journal.now }
     requires room { journal.now.at + ring_len journal.now.m journal.now.n ≤ (D.view device.old).capacity }
     requires few { count ≤ journal.now.n }
     requires small { first + count < 2 ^ 64 }
@@ -90,8 +90,7 @@ fn close_cells<D: Disk>(
     first: u64,
     count: u64,
 ) -> Result<(), Fault>
-    requires cells { 0 < journal.now.n }
-    requires records { journal.now.m ≤ 65536 }
+    requires ring { IsRing journal.now }
     requires room { journal.now.at + ring_len journal.now.m journal.now.n ≤ (D.view device.old).capacity }
     requires few { count ≤ journal.now.n }
     requires small { first + count < 2 ^ 64 }
@@ -119,19 +118,16 @@ pub fn close_free<D: Disk>(
     first: u64,
     count: u64,
 ) -> Result<(), Fault>
-    requires cells { 0 < journal.now.n }
-    requires records { journal.now.m ≤ 65536 }
+    requires ring { IsRing journal.now }
     requires room { journal.now.at + ring_len journal.now.m journal.now.n ≤ (D.view device.old).capacity }
     requires few { count ≤ journal.now.n }
     requires small { first + count < 2 ^ 64 }
     ensures device { Calls D.view result device.old device.new }
 
     // Each image tells the standing still; after Ok these cells are closed, and where each was, or there is none, nothing is written.
-    ensures later { IsLater D.view device.old device.new }
-    ensures begun { TellsAsBefore D.view journal.now first count device.old device.new }
-    ensures done { OnOk result (KeepsAsBefore D.view journal.now first count device.old device.new) }
+    ensures free { ClosesFree D.view journal.now first count result device.old device.new }
     ensures closed { OnOk result ((D.view device.old).lawful → AreShut journal.now (D.view device.new).state.bytes first count) }
-    ensures idle { (D.view device.old).lawful → AreShut journal.now (D.view device.old).state.bytes first count → WritesNothing D.view device.old device.new }
+    ensures idle { WritesOnlyIfOpen D.view journal.now first count device.old device.new }
 {
     laws::closing_is_safe::<D>();
     close_cells(journal, device, first, count)

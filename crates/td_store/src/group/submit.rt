@@ -5,20 +5,23 @@
 //! cells into one sync. Its gate is opened last, by a sync of its own, and with that the gate of the next epoch's cell is closed,
 //! where the ring has one that is free: so what is put next finds its first cell closed. An epoch by itself may leave that cell as
 //! it is (`NextCell::Left`).
-ghost use Rattle.std.specs.Prelude.{◌≡◌, ◌⊎◌, ◌+◌, ◌-◌, ◌^◌, ◌<◌, ◌≤◌, ◌∷◌, nat_le, ℕ, suc, List, length, false, OnOk, IfErr, IsErrOf, IsTrue};
+ghost use Rattle.std.specs.Prelude.{◌≡◌, ◌+◌, ◌-◌, ◌^◌, ◌<◌, ◌≤◌, ◌∷◌, nat_le, ℕ, suc, List, length, false, OnOk, IfErr, IsErrOf, IsTrue};
 ghost use Rattle.td_disk.specs.Calls.{Calls, KeepsDevice};
 ghost use Rattle.td_disk.specs.Disk.{IsDurable};
-ghost use Rattle.td_gate.specs.CrashSafe.{CrashSafe, Unchanged};
+ghost use Rattle.td_gate.specs.CrashSafe.{CrashSafe};
 ghost use Rattle.td_gate.specs.Region.{IsFilled};
+ghost use Rattle.td_gate.specs.Steps.{WritesNothing};
 ghost use Rattle.td_journal.specs.Cell.{cell_of, cell_len, ring_len};
 ghost use Rattle.td_journal.specs.Images.{IsBorne};
+ghost use Rattle.td_journal.specs.Refusals.{IsMemoryOrDevice};
+ghost use Rattle.td_journal.specs.Steps.{IsRing};
 ghost use Rattle.td_plan.specs.Lines.{Line};
 ghost use Rattle.td_head.specs.declared.head.Head.{Head as AnyHead};
 ghost use Rattle.td_store.specs.standing.Standing.{Standing, with_more};
 ghost use Rattle.td_store.specs.standing.Told.{inputs_of, ring_of};
 ghost use Rattle.td_store.specs.standing.Tells.{Tells, Keeps, TellsSince};
 ghost use Rattle.td_store.specs.group.Groups.{gated, AllFew, AreBatches, AreFresh, HasRoomFor, Spares, EachReady, ClosesNext, touched};
-ghost use Rattle.td_store.specs.standing.Steps.{IsLater, WritesNothing, KeepsTold, TellsGroup, KeepsGroup};
+ghost use Rattle.td_store.specs.standing.Steps.{HasPlace, SubmitsGroup};
 
 use crate::group::cells::{Written, fill_cells, gated};
 use crate::group::free::close_gate;
@@ -47,16 +50,14 @@ fn clear_behind<D: Disk>(
     count: u64,
     is_full: bool,
 ) -> Result<(), JournalError>
-    requires cells { 0 < journal.now.n }
-    requires records { journal.now.m ≤ 65536 }
+    requires ring { IsRing journal.now }
     requires room { journal.now.at + ring_len journal.now.m journal.now.n ≤ (D.view device.old).capacity }
     requires some { 0 < count }
     requires few { touched is_full count ≤ journal.now.n }
     requires small { first + count ≤ 2 ^ 63 }
-    ensures refusals { IfErr result (λ e. (e ≡ JournalError.Memory) ⊎ (e ≡ JournalError.Device)) }
+    ensures refusals { IfErr result IsMemoryOrDevice }
     ensures device { KeepsDevice D.view JournalError.Device result device.old device.new }
-    ensures unwritten { IsErrOf result JournalError.Memory → (D.view device.old).lawful
-        → CrashSafe Unchanged (D.view device.old).state (D.view device.new).state }
+    ensures unwritten { IsErrOf result JournalError.Memory → WritesNothing D.view device.old device.new }
     ensures same { IsErrOf result JournalError.Memory → (D.view device.old).lawful
         → (D.view device.new).state.bytes ≡ (D.view device.old).state.bytes }
     ensures crash_safe { (D.view device.old).lawful → IsDurable (D.view device.old).state
@@ -84,8 +85,7 @@ fn close_ahead<D: Disk>(
     count: u64,
     is_full: bool,
 ) -> Result<(), Fault>
-    requires cells { 0 < journal.now.n }
-    requires records { journal.now.m ≤ 65536 }
+    requires ring { IsRing journal.now }
     requires room { journal.now.at + ring_len journal.now.m journal.now.n ≤ (D.view device.old).capacity }
     requires small { first + count < 2 ^ 64 }
     ensures device { Calls D.view result device.old device.new }
@@ -114,18 +114,16 @@ pub(crate) fn get_ready<D: Disk>(
     written: Written<'_>,
     is_full: bool,
 ) -> Result<(), JournalError>
-    requires cells { 0 < journal.now.n }
-    requires records { journal.now.m ≤ 65536 }
+    requires ring { IsRing journal.now }
     requires room { journal.now.at + ring_len journal.now.m journal.now.n ≤ (D.view device.old).capacity }
     requires few { touched is_full (length others.now + 1) ≤ journal.now.n }
     requires small { first + length others.now + 1 ≤ 2 ^ 63 }
     requires payload { length written.payload.now ≡ cell_len journal.now.m }
     requires bytes { written.others.now ≡ gated journal.now.m (first + 1) others.now }
     requires batches { AllFew journal.now.m others.now }
-    ensures refusals { IfErr result (λ e. (e ≡ JournalError.Memory) ⊎ (e ≡ JournalError.Device)) }
+    ensures refusals { IfErr result IsMemoryOrDevice }
     ensures device { KeepsDevice D.view JournalError.Device result device.old device.new }
-    ensures unwritten { IsErrOf result JournalError.Memory → (D.view device.old).lawful
-        → CrashSafe Unchanged (D.view device.old).state (D.view device.new).state }
+    ensures unwritten { IsErrOf result JournalError.Memory → WritesNothing D.view device.old device.new }
     ensures same { IsErrOf result JournalError.Memory → (D.view device.old).lawful
         → (D.view device.new).state.bytes ≡ (D.view device.old).state.bytes }
     ensures crash_safe { (D.view device.old).lawful → IsDurable (D.view device.old).state
@@ -184,22 +182,14 @@ pub fn submit_group<D: Disk>(
     group: &[Submitted],
     next: NextCell,
 ) -> Result<(), JournalError>
-    requires cells { 0 < journal.now.n }
-    requires records { journal.now.m ≤ 65536 }
+    requires ring { IsRing journal.now }
     requires room { journal.now.at + ring_len journal.now.m journal.now.n ≤ (D.view device.old).capacity }
-    requires few { AllFew journal.now.m group.now }
-    requires later { journal.now.kept < first }
-    requires free { first + length group.now ≤ journal.now.kept + journal.now.n + 1 }
-    requires small { first + length group.now ≤ 2 ^ 63 }
-    ensures refusals { IfErr result (λ e. (e ≡ JournalError.Memory) ⊎ (e ≡ JournalError.Device)) }
+    requires place { HasPlace journal.now first group.now }
+    ensures refusals { IfErr result IsMemoryOrDevice }
     ensures device { KeepsDevice D.view JournalError.Device result device.old device.new }
-    ensures unwritten { IsErrOf result JournalError.Memory → WritesNothing D.view device.old device.new }
 
     // Each image tells the standing, or it with the whole group; after want of memory it tells the standing still, and after Ok it with the group.
-    ensures later { IsLater D.view device.old device.new }
-    ensures begun { TellsGroup D.view journal.now first group.now device.old device.new }
-    ensures kept { IsErrOf result JournalError.Memory → KeepsTold D.view device.old device.new }
-    ensures done { OnOk result (KeepsGroup D.view journal.now first group.now device.old device.new) }
+    ensures group { SubmitsGroup D.view journal.now first group.now result device.old device.new }
 {
     td_gate::laws::unchanged::<D>();
     let Some((head, others)) = group.split_first() else {
@@ -220,17 +210,15 @@ fn put_group<D: Disk>(
     head: &Submitted,
     others: &[Submitted],
 ) -> Result<(), JournalError>
-    requires cells { 0 < journal.now.n }
-    requires records { journal.now.m ≤ 65536 }
+    requires ring { IsRing journal.now }
     requires room { journal.now.at + ring_len journal.now.m journal.now.n ≤ (D.view device.old).capacity }
     requires few { AllFew journal.now.m (head.now ∷ others.now) }
     requires later { journal.now.kept < first }
     requires free { first + length others.now ≤ journal.now.kept + journal.now.n }
     requires small { first + length others.now + 1 ≤ 2 ^ 63 }
-    ensures refusals { IfErr result (λ e. (e ≡ JournalError.Memory) ⊎ (e ≡ JournalError.Device)) }
+    ensures refusals { IfErr result IsMemoryOrDevice }
     ensures device { KeepsDevice D.view JournalError.Device result device.old device.new }
-    ensures unwritten { IsErrOf result JournalError.Memory → (D.view device.old).lawful
-        → CrashSafe Unchanged (D.view device.old).state (D.view device.new).state }
+    ensures unwritten { IsErrOf result JournalError.Memory → WritesNothing D.view device.old device.new }
     ensures later { (D.view device.old).lawful → IsDurable (D.view device.old).state
         → (D.view device.old).state.moment ≤ (D.view device.new).state.moment }
 

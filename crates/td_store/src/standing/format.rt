@@ -1,9 +1,10 @@
 //! Formatting a disk.
-ghost use Rattle.std.specs.Prelude.{◌≡◌, ◌⊎◌, ◌↔◌, ◌≤◌, [], IfOk, IfErr, IsErrOf};
+ghost use Rattle.std.specs.Prelude.{◌≡◌, ◌≤◌, [], IfOk, IfErr};
 ghost use Rattle.td_disk.specs.Calls.{KeepsDevice};
 ghost use Rattle.td_head.specs.Layout.{size_of};
 ghost use Rattle.td_store.specs.standing.Standing.{standing_from, nothing_told};
-ghost use Rattle.td_store.specs.standing.Tells.{Keeps, first_head};
+ghost use Rattle.td_store.specs.standing.Refusals.{IsMemoryOrDevice};
+ghost use Rattle.td_store.specs.standing.Steps.{KeepsNothing};
 
 use crate::standing::error::KeeperError;
 use crate::standing::laws;
@@ -27,9 +28,8 @@ pub fn format_device<D: Disk>(
     ensures plan { IfOk result (λ r. r.0 ≡ plan.now) }
     ensures slot { IfOk result (λ r. r.1.slot ≡ 0) }
     ensures standing { IfOk result (λ r. standing_from r.1 [] ≡ nothing_told) }
-    ensures kept { IfOk result (λ _. (D.view device.old).lawful
-        → Keeps plan.now (first_head shape) 0 nothing_told (D.view device.new).state) }
-    ensures refusals { IfErr result (λ e. (e ≡ KeeperError.Memory) ⊎ (e ≡ KeeperError.Device)) }
+    ensures kept { IfOk result (λ _. KeepsNothing D.view plan.now shape device.old device.new) }
+    ensures refusals { IfErr result IsMemoryOrDevice }
 {
     let _vertices = plan.vertices();
     let Ok(copy) = plan.copy() else {

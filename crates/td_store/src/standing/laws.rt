@@ -1,5 +1,5 @@
 //! Laws of the definitions. Each is the contract of a function that does nothing.
-ghost use Rattle.std.specs.Prelude.{◌≡◌, ◌==◌, ◌≢◌, ◌⊎◌, ◌+◌, ◌-◌, ◌^◌, ◌<◌, ◌≤◌, ◌++◌, [], ◌∷◌, List, length, take, ℕ};
+ghost use Rattle.std.specs.Prelude.{◌≡◌, ◌==◌, ◌≢◌, ◌+◌, ◌<◌, ◌≤◌, ◌++◌, [], ◌∷◌, List, length, take, ℕ};
 ghost use Rattle.std.specs.Prelude.{suc, Result, None, Ok, Err};
 ghost use Rattle.std.specs.List.{list_all, list_any};
 ghost use Rattle.td_stamp.specs.declared.values.Entry.{Entry as AnyEntry};
@@ -10,29 +10,29 @@ ghost use Rattle.td_plan.specs.Faults.{IsPlan};
 ghost use Rattle.td_plan.specs.Inputs.{is_input_of};
 ghost use Rattle.td_batch.specs.Meaning.{run};
 ghost use Rattle.td_disk.specs.Disk.{IsDurable};
-ghost use Rattle.td_gate.specs.Region.{opened, IsOpen, Closes, Puts};
-ghost use Rattle.td_gate.specs.CrashSafe.{CrashSafe};
-ghost use Rattle.td_gate.specs.Regions.{Apart, Replaces};
+ghost use Rattle.td_gate.specs.Region.{opened};
+ghost use Rattle.td_gate.specs.Regions.{Apart};
 ghost use Rattle.td_head.specs.declared.error.HeadError.{HeadError};
 ghost use Rattle.td_head.specs.declared.head.Head.{Head as AnyHead};
-ghost use Rattle.td_head.specs.Layout.{Sizes, head as head_of_side, head_a, head_b, size_of};
-ghost use Rattle.td_head.specs.Head.{raised, raised_bytes, IsHeaded};
+ghost use Rattle.td_head.specs.Layout.{Sizes, head_a, head_b, size_of};
+ghost use Rattle.td_head.specs.Head.{IsHeaded};
 ghost use Rattle.td_slots.specs.declared.error.SlotsError.{SlotsError};
-ghost use Rattle.td_slots.specs.Slot.{slot, slot_bytes};
+ghost use Rattle.td_slots.specs.Slot.{slot};
 ghost use Rattle.td_slots.specs.declared.slots.Checkpoint.{Checkpoint as AnyCheckpoint};
 ghost use Rattle.td_slots.specs.Newest.{newest};
 ghost use Rattle.td_journal.specs.declared.error.JournalError.{JournalError};
 ghost use Rattle.td_journal.specs.declared.submitted.Submitted.{Submitted as AnySubmitted};
-ghost use Rattle.td_journal.specs.Numbers.{greatest};
-ghost use Rattle.td_journal.specs.Cell.{cell, cell_of, cell_bytes, IsCellBatch};
+ghost use Rattle.td_journal.specs.Cell.{cell, cell_of};
 ghost use Rattle.td_journal.specs.Ring.{told_after};
-ghost use Rattle.td_journal.specs.Images.{NothingFollows, Clears, IsGone};
+ghost use Rattle.td_journal.specs.Images.{NothingFollows};
 ghost use Rattle.td_store.specs.declared.standing.error.KeeperError.{KeeperError as AnyError};
 ghost use Rattle.td_store.specs.standing.Refusals.{of_head, of_slots, of_journal};
 ghost use Rattle.td_store.specs.standing.Standing.{Standing, last_epoch, last_request, batches_of, with_more, cut_at, nothing_told};
+ghost use Rattle.td_store.specs.standing.Safe.{SubmitIsBegun, SubmitIsDone, ClearingIsTold, CutIsBegun, CutIsDone, RaiseIsBegun, RaiseIsDone};
+ghost use Rattle.td_store.specs.standing.Safe.{ClearingIsSafe, SubmitIsSafe, SubmitIsKept, CutIsSafe, CutIsKept, RaiseIsSafe, RaiseIsKept};
 ghost use Rattle.td_store.specs.standing.Stops.{Advance, Stands, Begins, Holds};
 ghost use Rattle.td_store.specs.standing.Told.{Told, inputs_of, folds_of, slots_of, ring_of, floor_of};
-ghost use Rattle.td_store.specs.standing.Tells.{Tells, EachTells, TellsSince, IsFormatted, HasRoom, IsFresh, IsCut, side_after, first_head};
+ghost use Rattle.td_store.specs.standing.Tells.{Tells, EachTells, IsFormatted, first_head};
 
 use td_calls::Law;
 use td_disk::Disk;
@@ -140,18 +140,8 @@ pub fn told_refused()
 /// THE NEXT EPOCH IS SUBMITTED. While its batch is put into its cell, and nothing follows it in the ring, an image that
 /// told a standing tells it still, or it with the batch; once it is put, it with the batch.
 pub fn next_is_submitted()
-    ensures begun { (plan : List Line) (head : AnyHead) (side : ℕ) (s : Standing) (old new : List ℕ) (e : ℕ) (x : AnySubmitted)
-        → Tells plan head side s old → HasRoom head.shape s e → IsFresh head.version s x.request
-        → IsCellBatch (inputs_of plan) head.shape.m x
-        → NothingFollows (ring_of head.shape s.epoch) old e
-        → Puts (cell_of (ring_of head.shape s.epoch) e) (cell_bytes head.shape.m e x.request x.batch) old new
-        → Tells plan head side s new ⊎ Tells plan head side (with_more s (x ∷ [])) new }
-    ensures done { (plan : List Line) (head : AnyHead) (side : ℕ) (s : Standing) (old new : List ℕ) (e : ℕ) (x : AnySubmitted)
-        → Tells plan head side s old → HasRoom head.shape s e → IsFresh head.version s x.request
-        → IsCellBatch (inputs_of plan) head.shape.m x
-        → NothingFollows (ring_of head.shape s.epoch) old e
-        → Replaces (cell_of (ring_of head.shape s.epoch) e) (cell_bytes head.shape.m e x.request x.batch) old new
-        → Tells plan head side (with_more s (x ∷ [])) new }
+    ensures begun { SubmitIsBegun }
+    ensures done { SubmitIsDone }
 {
     td_gate::laws::put_leaves_others();
     td_head::laws::heads_tell();
@@ -162,10 +152,7 @@ pub fn next_is_submitted()
 /// Before that the cell after the next epoch's is closed, where it is open and bears the epoch after it: an image tells
 /// what it told, and then nothing follows.
 pub fn following_is_cleared()
-    ensures begun { (plan : List Line) (head : AnyHead) (side : ℕ) (s : Standing) (old new : List ℕ) (e : ℕ)
-        → Tells plan head side s old → HasRoom head.shape s e
-        → Clears (ring_of head.shape s.epoch) (suc e) old new
-        → Tells plan head side s new }
+    ensures begun { ClearingIsTold }
     ensures done { (sizes : Sizes) (kept e : ℕ) (image : List ℕ)
         → opened (cell_of (ring_of sizes kept) (suc e)) image ≡ None → NothingFollows (ring_of sizes kept) image e }
 {
@@ -178,14 +165,8 @@ pub fn following_is_cleared()
 /// A CUT IS WRITTEN. While states after the first k epochs are put into the slot beside the newest, an image that told
 /// a standing tells it still, or the standing cut there; once they are put, the latter.
 pub fn cut_is_written()
-    ensures begun { (plan : List Line) (head : AnyHead) (side : ℕ) (s : Standing) (old new : List ℕ) (k : ℕ) (states : StateList)
-        → Tells plan head side s old → IsCut plan head.shape s k states → greatest s.last (take k s.submitted) < 2 ^ 64
-        → Puts (slot (slots_of head.shape) (1 - side)) (slot_bytes head.shape.k (s.epoch + k) (greatest s.last (take k s.submitted)) states) old new
-        → Tells plan head side s new ⊎ Tells plan head (side_after side k) (cut_at s k states) new }
-    ensures done { (plan : List Line) (head : AnyHead) (side : ℕ) (s : Standing) (old new : List ℕ) (k : ℕ) (states : StateList)
-        → Tells plan head side s old → IsCut plan head.shape s k states → greatest s.last (take k s.submitted) < 2 ^ 64
-        → Replaces (slot (slots_of head.shape) (1 - side)) (slot_bytes head.shape.k (s.epoch + k) (greatest s.last (take k s.submitted)) states) old new
-        → Tells plan head (side_after side k) (cut_at s k states) new }
+    ensures begun { CutIsBegun }
+    ensures done { CutIsDone }
 {
     td_gate::laws::put_leaves_others();
     td_head::laws::heads_tell();
@@ -199,25 +180,9 @@ pub fn cut_is_written()
 /// to its start was one by then, or it tells the standing, or it with the batch; once both answered Ok, each image tells it
 /// with the batch.
 pub fn submit_is_safe<D: Disk>()
-    ensures cleared { (plan : List Line) (head : AnyHead) (side : ℕ) (s : Standing) (e : ℕ) (old mid : D)
-        → HasRoom head.shape s e → EachTells plan head side s (D.view old).state
-        → CrashSafe (Clears (ring_of head.shape s.epoch) (suc e)) (D.view old).state (D.view mid).state
-        → (t : ℕ) (c : List ℕ) → t ≤ (D.view old).state.moment → (D.view mid).state.since t c → (D.view old).state.since t c ⊎ Tells plan head side s c }
-    ensures begun { (plan : List Line) (head : AnyHead) (side : ℕ) (s : Standing) (e : ℕ) (x : AnySubmitted) (old mid new : D)
-        → HasRoom head.shape s e → IsFresh head.version s x.request → IsCellBatch (inputs_of plan) head.shape.m x
-        → EachTells plan head side s (D.view old).state → (D.view mid).lawful
-        → CrashSafe (Clears (ring_of head.shape s.epoch) (suc e)) (D.view old).state (D.view mid).state
-        → IsGone (ring_of head.shape s.epoch) (suc e) (D.view mid).state
-        → CrashSafe (Puts (cell_of (ring_of head.shape s.epoch) e) (cell_bytes head.shape.m e x.request x.batch)) (D.view mid).state (D.view new).state
-        → TellsSince (Tells plan head side s) (Tells plan head side (with_more s (x ∷ []))) (D.view old).state (D.view new).state }
-    ensures done { (plan : List Line) (head : AnyHead) (side : ℕ) (s : Standing) (e : ℕ) (x : AnySubmitted) (old mid new : D)
-        → HasRoom head.shape s e → IsFresh head.version s x.request → IsCellBatch (inputs_of plan) head.shape.m x
-        → EachTells plan head side s (D.view old).state → (D.view mid).lawful → (D.view new).lawful
-        → CrashSafe (Clears (ring_of head.shape s.epoch) (suc e)) (D.view old).state (D.view mid).state
-        → IsGone (ring_of head.shape s.epoch) (suc e) (D.view mid).state
-        → CrashSafe (Puts (cell_of (ring_of head.shape s.epoch) e) (cell_bytes head.shape.m e x.request x.batch)) (D.view mid).state (D.view new).state
-        → IsOpen (cell_of (ring_of head.shape s.epoch) e) (cell_bytes head.shape.m e x.request x.batch) (D.view new).state
-        → EachTells plan head side (with_more s (x ∷ [])) (D.view new).state }
+    ensures cleared { ClearingIsSafe D.view }
+    ensures begun { SubmitIsSafe D.view }
+    ensures done { SubmitIsKept D.view }
 {
     following_is_cleared();
     next_is_submitted();
@@ -225,17 +190,8 @@ pub fn submit_is_safe<D: Disk>()
 
 /// The same for a cut that is written, by the contract of `Slots::write`.
 pub fn write_cut_is_safe<D: Disk>()
-    ensures begun { (plan : List Line) (head : AnyHead) (side : ℕ) (s : Standing) (k : ℕ) (states : StateList) (old new : D)
-        → EachTells plan head side s (D.view old).state → IsCut plan head.shape s k states
-        → greatest s.last (take k s.submitted) < 2 ^ 64
-        → CrashSafe (Puts (slot (slots_of head.shape) (1 - side)) (slot_bytes head.shape.k (s.epoch + k) (greatest s.last (take k s.submitted)) states)) (D.view old).state (D.view new).state
-        → TellsSince (Tells plan head side s) (Tells plan head (side_after side k) (cut_at s k states)) (D.view old).state (D.view new).state }
-    ensures done { (plan : List Line) (head : AnyHead) (side : ℕ) (s : Standing) (k : ℕ) (states : StateList) (old new : D)
-        → EachTells plan head side s (D.view old).state → IsCut plan head.shape s k states
-        → greatest s.last (take k s.submitted) < 2 ^ 64 → (D.view new).lawful
-        → CrashSafe (Puts (slot (slots_of head.shape) (1 - side)) (slot_bytes head.shape.k (s.epoch + k) (greatest s.last (take k s.submitted)) states)) (D.view old).state (D.view new).state
-        → IsOpen (slot (slots_of head.shape) (1 - side)) (slot_bytes head.shape.k (s.epoch + k) (greatest s.last (take k s.submitted)) states) (D.view new).state
-        → EachTells plan head (side_after side k) (cut_at s k states) (D.view new).state }
+    ensures begun { CutIsSafe D.view }
+    ensures done { CutIsKept D.view }
 {
     cut_is_written();
 }
@@ -243,14 +199,8 @@ pub fn write_cut_is_safe<D: Disk>()
 /// A HEAD IS RAISED. While the head that follows one is put beside it, an image that told a standing tells it still, under
 /// the one head or the other; once it is put, under the other.
 pub fn head_is_raised()
-    ensures begun { (plan : List Line) (head : AnyHead) (side : ℕ) (s : Standing) (old new : List ℕ)
-        → IsPlan plan → Tells plan head side s old → head.generation + 1 < 2 ^ 64
-        → Puts (head_of_side (1 - head.side)) (raised_bytes head plan) old new
-        → Tells plan head side s new ⊎ Tells plan (raised head) side s new }
-    ensures done { (plan : List Line) (head : AnyHead) (side : ℕ) (s : Standing) (old new : List ℕ)
-        → IsPlan plan → Tells plan head side s old → head.generation + 1 < 2 ^ 64
-        → Replaces (head_of_side (1 - head.side)) (raised_bytes head plan) old new
-        → Tells plan (raised head) side s new }
+    ensures begun { RaiseIsBegun }
+    ensures done { RaiseIsDone }
 {
     td_gate::laws::put_leaves_others();
     td_head::laws::heads_tell();
@@ -263,15 +213,8 @@ pub fn head_is_raised()
 
 /// The crash clause of an upgrade, by the contract of `td_head::raise`.
 pub fn raise_is_safe<D: Disk>()
-    ensures begun { (plan : List Line) (head : AnyHead) (side : ℕ) (s : Standing) (old new : D)
-        → IsPlan plan → EachTells plan head side s (D.view old).state → head.generation + 1 < 2 ^ 64
-        → CrashSafe (Puts (head_of_side (1 - head.side)) (raised_bytes head plan)) (D.view old).state (D.view new).state
-        → TellsSince (Tells plan head side s) (Tells plan (raised head) side s) (D.view old).state (D.view new).state }
-    ensures done { (plan : List Line) (head : AnyHead) (side : ℕ) (s : Standing) (old new : D)
-        → IsPlan plan → EachTells plan head side s (D.view old).state → head.generation + 1 < 2 ^ 64 → (D.view new).lawful
-        → CrashSafe (Puts (head_of_side (1 - head.side)) (raised_bytes head plan)) (D.view old).state (D.view new).state
-        → IsOpen (head_of_side (1 - head.side)) (raised_bytes head plan) (D.view new).state
-        → EachTells plan (raised head) side s (D.view new).state }
+    ensures begun { RaiseIsSafe D.view }
+    ensures done { RaiseIsKept D.view }
 {
     head_is_raised();
 }

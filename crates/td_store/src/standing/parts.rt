@@ -1,9 +1,9 @@
 //! What is read of a disk, part by part.
-ghost use Rattle.std.specs.Prelude.{◌≡◌, ◌⊎◌, ◌↔◌, ◌+◌, ◌^◌, ◌<◌, ◌≤◌, List, length, All, true, Ok, Err, IfOk, IfErr, IsErrOf};
+ghost use Rattle.std.specs.Prelude.{◌≡◌, ◌+◌, ◌^◌, ◌<◌, ◌≤◌, List, length, All, true, Ok, Err, IfOk, IfErr};
 ghost use Rattle.td_disk.specs.Calls.{KeepsDevice};
-ghost use Rattle.td_disk.specs.Disk.{CountsDevice, IsDurable};
-ghost use Rattle.td_gate.specs.CrashSafe.{CrashSafe, Unchanged};
+ghost use Rattle.td_disk.specs.Disk.{CountsDevice};
 ghost use Rattle.td_gate.specs.Reads.{IsRead};
+ghost use Rattle.td_gate.specs.Steps.{WritesNothing};
 ghost use Rattle.td_head.specs.Layout.{size_of};
 ghost use Rattle.td_journal.specs.declared.submitted.Submitted.{Submitted as AnySubmitted};
 ghost use Rattle.td_journal.specs.declared.error.JournalError.{JournalError};
@@ -12,8 +12,9 @@ ghost use Rattle.td_journal.specs.Ring.{told_after};
 ghost use Rattle.td_store.specs.standing.Refusals.{of_journal};
 ghost use Rattle.td_store.specs.standing.Standing.{standing_from};
 ghost use Rattle.td_store.specs.standing.Told.{Told, inputs_of, folds_of, floor_of as floor_in};
-ghost use Rattle.td_store.specs.standing.Tells.{Tells, Keeps};
-ghost use Rattle.td_store.specs.standing.Read.{standing_of, IsCounted, MayStand, Refused};
+ghost use Rattle.td_store.specs.standing.Tells.{Tells};
+ghost use Rattle.td_store.specs.standing.Read.{standing_of, MayStand, Refused};
+ghost use Rattle.td_store.specs.standing.Read.{IsRecovered, KeepsRecovered, IsCountedOf, KeepsCounted, DiskRefuses, SyncedRefuses};
 
 use crate::standing::error::KeeperError;
 use crate::standing::laws;
@@ -97,8 +98,7 @@ fn read_before<D: Disk>(alloc: Global, device: &mut D, plan: &Plan) -> Result<Be
     ensures small { IfOk result (λ b. b.checkpoint.epoch < 2 ^ 63) }
     ensures cells { IfOk result (λ b. (0 < b.journal.n) × (b.journal.n ≤ 65536) × (b.journal.m ≤ 65536)) }
     ensures room { IfOk result (λ b. b.journal.at + ring_len b.journal.m b.journal.n ≤ (D.view device.old).capacity) }
-    ensures refused { IfErr result (λ e. (e ≡ KeeperError.Device) ⊎ ((e ≡ KeeperError.Memory) ⊎ ((D.view device.old).lawful
-        → Told plan.now (D.view device.old).state.bytes (Refused e)))) }
+    ensures refused { IfErr result (λ e. DiskRefuses D.view plan.now e device.old) }
     ensures failures { CountsDevice result KeeperError.Device (D.view device.old).failures (D.view device.new).failures }
     ensures read { IsRead D.view device.old device.new }
 {
@@ -128,14 +128,12 @@ pub fn read_parts<D: Disk>(
     device: &mut D,
     plan: &Plan,
 ) -> Result<Recovered, KeeperError>
-    ensures told { IfOk result (λ r. (D.view device.old).lawful
-        → Tells plan.now r.head r.checkpoint.slot (standing_of r) (D.view device.old).state.bytes) }
+    ensures told { IfOk result (λ r. IsRecovered D.view plan.now r device.old) }
 
     // Whatever the disk, what is read fits it and may stand on it.
     ensures fits { IfOk result (λ r. size_of r.head.shape ≤ (D.view device.old).capacity) }
     ensures may_stand { IfOk result (λ r. MayStand plan.now r.head r.checkpoint.slot (standing_of r)) }
-    ensures refused { IfErr result (λ e. (e ≡ KeeperError.Device) ⊎ ((e ≡ KeeperError.Memory) ⊎ ((D.view device.old).lawful
-        → Told plan.now (D.view device.old).state.bytes (Refused e)))) }
+    ensures refused { IfErr result (λ e. DiskRefuses D.view plan.now e device.old) }
     ensures failures { CountsDevice result KeeperError.Device (D.view device.old).failures (D.view device.new).failures }
     ensures read { IsRead D.view device.old device.new }
 {
@@ -158,11 +156,9 @@ pub fn read_parts<D: Disk>(
 
 /// The same, with the counts of the batches in place of these.
 fn count_parts<D: Disk>(alloc: Global, device: &mut D, plan: &Plan) -> Result<Counted, KeeperError>
-    ensures told { IfOk result (λ c. IsCounted c (λ s. MayStand plan.now c.head c.checkpoint.slot s
-        × ((D.view device.old).lawful → Tells plan.now c.head c.checkpoint.slot s (D.view device.old).state.bytes))) }
+    ensures told { IfOk result (λ c. IsCountedOf D.view plan.now c device.old) }
     ensures small { IfOk result (λ c. c.checkpoint.epoch + length c.submitted.items < 2 ^ 63) }
-    ensures refused { IfErr result (λ e. (e ≡ KeeperError.Device) ⊎ ((e ≡ KeeperError.Memory) ⊎ ((D.view device.old).lawful
-        → Told plan.now (D.view device.old).state.bytes (Refused e)))) }
+    ensures refused { IfErr result (λ e. DiskRefuses D.view plan.now e device.old) }
     ensures failures { CountsDevice result KeeperError.Device (D.view device.old).failures (D.view device.new).failures }
     ensures read { IsRead D.view device.old device.new }
 {
@@ -192,13 +188,11 @@ pub fn recover_device<D: Disk>(
 ) -> Result<(Plan, Recovered), KeeperError>
     ensures device { KeepsDevice D.view KeeperError.Device result device.old device.new }
     ensures plan { IfOk result (λ r. r.0 ≡ plan.now) }
-    ensures kept { IfOk result (λ r. (D.view device.old).lawful
-        → Keeps plan.now r.1.head r.1.checkpoint.slot (standing_of r.1) (D.view device.new).state) }
+    ensures kept { IfOk result (λ r. KeepsRecovered D.view plan.now r.1 device.old device.new) }
     ensures fits { IfOk result (λ r. size_of r.1.head.shape ≤ (D.view device.old).capacity) }
     ensures may_stand { IfOk result (λ r. MayStand plan.now r.1.head r.1.checkpoint.slot (standing_of r.1)) }
-    ensures refused { IfErr result (λ e. (e ≡ KeeperError.Device) ⊎ ((e ≡ KeeperError.Memory) ⊎ ((D.view device.old).lawful
-        → IsDurable (D.view device.new).state × Told plan.now (D.view device.new).state.bytes (Refused e)))) }
-    ensures crash_safe { (D.view device.old).lawful → CrashSafe Unchanged (D.view device.old).state (D.view device.new).state }
+    ensures refused { IfErr result (λ e. SyncedRefuses D.view plan.now e device.old device.new) }
+    ensures crash_safe { WritesNothing D.view device.old device.new }
 {
     td_gate::laws::unchanged::<D>();
     td_gate::laws::reads_in_turn::<D>();
@@ -219,12 +213,10 @@ pub fn count_device<D: Disk>(
     plan: &Plan,
 ) -> Result<Counted, KeeperError>
     ensures device { KeepsDevice D.view KeeperError.Device result device.old device.new }
-    ensures kept { IfOk result (λ c. IsCounted c (λ s. MayStand plan.now c.head c.checkpoint.slot s
-        × ((D.view device.old).lawful → Keeps plan.now c.head c.checkpoint.slot s (D.view device.new).state))) }
+    ensures kept { IfOk result (λ c. KeepsCounted D.view plan.now c device.old device.new) }
     ensures small { IfOk result (λ c. c.checkpoint.epoch + length c.submitted.items < 2 ^ 63) }
-    ensures refused { IfErr result (λ e. (e ≡ KeeperError.Device) ⊎ ((e ≡ KeeperError.Memory) ⊎ ((D.view device.old).lawful
-        → IsDurable (D.view device.new).state × Told plan.now (D.view device.new).state.bytes (Refused e)))) }
-    ensures crash_safe { (D.view device.old).lawful → CrashSafe Unchanged (D.view device.old).state (D.view device.new).state }
+    ensures refused { IfErr result (λ e. SyncedRefuses D.view plan.now e device.old device.new) }
+    ensures crash_safe { WritesNothing D.view device.old device.new }
 {
     td_gate::laws::unchanged::<D>();
     td_gate::laws::reads_in_turn::<D>();

@@ -1,13 +1,15 @@
 //! The calls of a keeper that write, without what the keeper keeps in memory.
-ghost use Rattle.std.specs.Prelude.{◌≡◌, ◌⊎◌, ◌↔◌, ◌+◌, ◌-◌, ◌*◌, ◌^◌, ◌<◌, ◌≤◌, length, OnOk, IfOk, IfErr, IsErrOf};
+ghost use Rattle.std.specs.Prelude.{◌≡◌, ◌↔◌, ◌+◌, ◌-◌, ◌^◌, ◌<◌, ◌≤◌, length, IfOk, IfErr, IsErrOf};
 ghost use Rattle.td_disk.specs.Calls.{KeepsDevice};
+ghost use Rattle.td_gate.specs.Steps.{SameUnless};
 ghost use Rattle.td_head.specs.Head.{raised};
+ghost use Rattle.td_head.specs.HeadError.{IsRaiseRefusal};
 ghost use Rattle.td_head.specs.Layout.{size_of};
-ghost use Rattle.td_gate.specs.Reading.{Each};
-ghost use Rattle.td_slots.specs.Slot.{slot_len, FitsState};
-ghost use Rattle.td_journal.specs.Numbers.{greatest};
+ghost use Rattle.td_slots.specs.Steps.{HasSlots, RefusesStates, StatesFit};
 ghost use Rattle.td_journal.specs.Cell.{ring_len};
-ghost use Rattle.td_store.specs.standing.Steps.{IsLater, WritesNothing, KeepsTold, TellsBatch, KeepsBatch, TellsCut, KeepsCut, TellsRaised, KeepsRaised};
+ghost use Rattle.td_journal.specs.Refusals.{IsMemoryOrDevice};
+ghost use Rattle.td_journal.specs.Steps.{IsRing};
+ghost use Rattle.td_store.specs.standing.Steps.{SubmitsBatch, WritesCut, RaisesHead};
 
 use crate::standing::laws;
 use std::alloc::Global;
@@ -31,20 +33,15 @@ pub fn submit_batch<D: Disk>(
     request: u64,
     batch: &Batch,
 ) -> Result<(), JournalError>
-    requires cells { 0 < journal.now.n }
-    requires records { journal.now.m ≤ 65536 }
+    requires ring { IsRing journal.now }
     requires room { journal.now.at + ring_len journal.now.m journal.now.n ≤ (D.view device.old).capacity }
     requires few { length batch.now ≤ journal.now.m }
     requires small { epoch < 2 ^ 63 }
-    ensures refusals { IfErr result (λ e. (e ≡ JournalError.Memory) ⊎ (e ≡ JournalError.Device)) }
+    ensures refusals { IfErr result IsMemoryOrDevice }
     ensures device { KeepsDevice D.view JournalError.Device result device.old device.new }
-    ensures unwritten { IsErrOf result JournalError.Memory → WritesNothing D.view device.old device.new }
 
     // Each image tells the standing, or it with the batch; after want of memory it tells the standing still, and after Ok it with the batch.
-    ensures later { IsLater D.view device.old device.new }
-    ensures begun { TellsBatch D.view journal.now epoch request batch.now device.old device.new }
-    ensures kept { IsErrOf result JournalError.Memory → KeepsTold D.view device.old device.new }
-    ensures done { OnOk result (KeepsBatch D.view journal.now epoch request batch.now device.old device.new) }
+    ensures batch { SubmitsBatch D.view journal.now epoch request batch.now result device.old device.new }
 {
     laws::submit_is_safe::<D>();
     laws::recovered::<D>();
@@ -72,22 +69,14 @@ pub fn write_states<D: Disk>(
     last: u64,
     states: &OrderedStates,
 ) -> Result<(), SlotsError>
+    requires slots { HasSlots slots.now (D.view device.old).capacity }
     requires which { newest ≤ 1 }
-    requires limit { slots.now.k ≤ 1048576 }
-    requires room { slots.now.at + 2 * (slot_len slots.now.k + 1) ≤ (D.view device.old).capacity }
-    requires small { epoch < 2 ^ 63 }
-    ensures too_many { IsErrOf result SlotsError.TooManyKeys ↔ (slots.now.k < length states.now) }
-    ensures refusals { IfErr result (λ e. (e ≡ SlotsError.TooManyKeys) ⊎ (e ≡ SlotsError.Memory)
-        ⊎ (e ≡ SlotsError.Device)) }
-    ensures fits { OnOk result (Each FitsState states.now) }
-    ensures fits_too { IsErrOf result SlotsError.Device → Each FitsState states.now }
-    ensures untouched { IfErr result (λ e. (e ≡ SlotsError.Device) ⊎ (device.new ≡ device.old)) }
+    ensures refused { RefusesStates slots.now.k states.now result device.old device.new }
+    ensures fits { StatesFit slots.now.k states.now result }
     ensures device { KeepsDevice D.view SlotsError.Device result device.old device.new }
 
     // Each image tells the standing, or it cut there, and after Ok it cut there.
-    ensures later { IsLater D.view device.old device.new }
-    ensures begun { TellsCut D.view slots.now newest epoch last states.now device.old device.new }
-    ensures done { OnOk result (KeepsCut D.view slots.now newest epoch last states.now device.old device.new) }
+    ensures cut { WritesCut D.view slots.now newest epoch last states.now result device.old device.new }
 {
     laws::write_cut_is_safe::<D>();
     laws::recovered::<D>();
@@ -107,14 +96,12 @@ pub fn raise_head<D: Disk>(
     requires room { size_of head.now.shape ≤ (D.view device.old).capacity }
     ensures last { IsErrOf result HeadError.LastGeneration ↔ (head.now.generation ≡ 2 ^ 64 - 1) }
     ensures raised { IfOk result (λ h. h ≡ raised head.now) }
-    ensures refusals { IfErr result (λ e. (e ≡ HeadError.LastGeneration) ⊎ ((e ≡ HeadError.Memory) ⊎ (e ≡ HeadError.Device))) }
-    ensures untouched { IfErr result (λ e. (e ≡ HeadError.Device) ⊎ (device.new ≡ device.old)) }
+    ensures refusals { IfErr result IsRaiseRefusal }
+    ensures untouched { IfErr result (λ e. SameUnless HeadError.Device e device.old device.new) }
     ensures device { KeepsDevice D.view HeadError.Device result device.old device.new }
 
     // Each image tells the standing under the one head or the other, and after Ok under the head that was put.
-    ensures later { IsLater D.view device.old device.new }
-    ensures begun { TellsRaised D.view plan.now head.now device.old device.new }
-    ensures done { OnOk result (KeepsRaised D.view plan.now head.now device.old device.new) }
+    ensures head { RaisesHead D.view plan.now head.now result device.old device.new }
 {
     laws::raise_is_safe::<D>();
     td_gate::laws::durable_is_settled::<D>();

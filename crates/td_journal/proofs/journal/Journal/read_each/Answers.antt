@@ -23,7 +23,7 @@ loop-i-init g c =
       told = ([], sym c.new-told.ensures.items, All-nil (λ x. is_batch c.args.inputs.now x.batch ≡ true), λ lawful. left_first find c.args.self.now.n c.args.checkpoint c.args.floor);
       size = omega (arith, c.in_ok-bytes.ensures.len);
       count = ap length c.new-told.ensures.items;
-      below = omega (arith, c.requires.small);
+      below = omega (arith, c.requires.ring.small);
       count_stays = refl;
       read = c.reads_in_turn.ensures.none c.args.device.now;
     }

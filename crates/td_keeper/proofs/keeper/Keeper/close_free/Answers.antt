@@ -35,17 +35,17 @@ invariant_of-self-in-Err-Device g c =
       λ l.
           let old = c.in-Err-Device.ensures.device.lawful.1 l in
           let keeps = keeps_of c.self.inside.broken answers plan head side s (view device).state c.if-self.false (c.self.invariant.2 old) in
-          let later : (view device).state.moment ≤ (view new).state.moment = c.in-Err-Device.ensures.later old keeps.durable in
+          let later : (view device).state.moment ≤ (view new).state.moment = c.in-Err-Device.ensures.free.later old keeps.durable in
           held answers plan head side s [] (view device).state.moment (view new).state (λ d now. g.met.D.Disk.counts_now new (view device).state.moment d l later now)
           (from_start answers plan c.told_in_parts.ensures.together head side s [] (view device).state (view new).state (λ d. g.met.D.Disk.only_now device d old) still keeps
-          (told_further answers plan c.told_in_parts.ensures.together head head side s (view device).state (view new).state still (c.in-Err-Device.ensures.begun old plan head side s ring free keeps))),
+          (told_further answers plan c.told_in_parts.ensures.together head head side s (view device).state (view new).state still (c.in-Err-Device.ensures.free.begun old plan head side s ring free keeps))),
       c.self.invariant.3,
       λ l.
           let old = c.in-Err-Device.ensures.device.lawful.1 l in
           let keeps = keeps_of c.self.inside.broken answers plan head side s (view device).state c.if-self.false (c.self.invariant.2 old) in
-          let later : (view device).state.moment ≤ (view new).state.moment = c.in-Err-Device.ensures.later old keeps.durable in
+          let later : (view device).state.moment ≤ (view new).state.moment = c.in-Err-Device.ensures.free.later old keeps.durable in
           keeps_to plan c.told_in_parts.ensures.one_answer k.base s s (view device).state.moment (view new).state (λ d now. g.met.D.Disk.counts_now new (view device).state.moment d l later now)
-          (either_told plan c.told_in_parts.ensures.together head head side side s s (view device).state (view new).state (λ d. g.met.D.Disk.only_now device d old) keeps (c.in-Err-Device.ensures.begun old plan head side s ring free keeps))
+          (either_told plan c.told_in_parts.ensures.together head head side side s s (view device).state (view new).state (λ d. g.met.D.Disk.only_now device d old) keeps (c.in-Err-Device.ensures.free.begun old plan head side s ring free keeps))
           c.self.invariant.1.from_checkpoint c.self.invariant.1.from_checkpoint,
     )
 
@@ -56,7 +56,7 @@ returns-in-Ok-clause-idle g c =
     let k = keeping_of device c.self.inside.plan c.self.inside.head c.self.inside.checkpoint c.self.inside.submitted.items c.self.inside.broken c.self.inside.taken c.self.inside.collected c.self.inside.queue.items c.self.inside.watch in
     subst (λ (z : Keeping g.row.D.Denot). (g.D.Disk.view z.device).lawful → FreeAreShut z c.args.most (view z.device).state.bytes → CrashSafe Unchanged (view z.device).state (view c.close_free.new.device).state) c.self.view_is
     (λ old shut. c.in-Ok.ensures.idle old
-    (shut_in {k = k} c.ring_of-journal.result (view device).state.bytes c.last_epoch-first.result c.args.most c.free.result c.min-count.result c.self.view_is c.ring_of-journal.ensures.ring c.last_epoch-first.ensures c.free.ensures c.min-count.ensures shut) old)
+    (shut_in {k = k} c.ring_of-journal.result (view device).state.bytes c.last_epoch-first.result c.args.most c.free.result c.min-count.result c.self.view_is c.ring_of-journal.ensures.ring c.last_epoch-first.ensures c.free.ensures c.min-count.ensures shut))
 
 pub returns-in-Err-Device-clause-idle : goal.returns-in-Err-Device-clause-idle
 returns-in-Err-Device-clause-idle g c =
@@ -65,7 +65,7 @@ returns-in-Err-Device-clause-idle g c =
     let k = keeping_of device c.self.inside.plan c.self.inside.head c.self.inside.checkpoint c.self.inside.submitted.items c.self.inside.broken c.self.inside.taken c.self.inside.collected c.self.inside.queue.items c.self.inside.watch in
     subst (λ (z : Keeping g.row.D.Denot). (g.D.Disk.view z.device).lawful → FreeAreShut z c.args.most (view z.device).state.bytes → CrashSafe Unchanged (view z.device).state (view c.close_free.new.device).state) c.self.view_is
     (λ old shut. c.in-Err-Device.ensures.idle old
-    (shut_in {k = k} c.ring_of-journal.result (view device).state.bytes c.last_epoch-first.result c.args.most c.free.result c.min-count.result c.self.view_is c.ring_of-journal.ensures.ring c.last_epoch-first.ensures c.free.ensures c.min-count.ensures shut) old)
+    (shut_in {k = k} c.ring_of-journal.result (view device).state.bytes c.last_epoch-first.result c.args.most c.free.result c.min-count.result c.self.view_is c.ring_of-journal.ensures.ring c.last_epoch-first.ensures c.free.ensures c.min-count.ensures shut))
 
 pub invariant_of-self : goal.invariant_of-self
 invariant_of-self g c =
@@ -85,7 +85,7 @@ invariant_of-self g c =
       λ l.
           let old = c.in-Ok.ensures.device.lawful.1 l in
           let keeps = keeps_of c.self.inside.broken answers plan head side s (view device).state c.if-self.false (c.self.invariant.2 old) in
-          held_of c.self.inside.broken answers plan head side s (view new).state c.if-self.false (c.in-Ok.ensures.done old plan head side s ring free keeps),
+          held_of c.self.inside.broken answers plan head side s (view new).state c.if-self.false (c.in-Ok.ensures.free.done old plan head side s ring free keeps),
       c.self.invariant.3,
       λ l. none_beyond c.self.inside.broken plan k.base (view new).state c.if-self.false,
     )
@@ -109,10 +109,10 @@ returns-in-Ok-clause-crash g c =
     subst (λ (z : Keeping g.row.D.Denot). (g.D.Disk.view z.device).lawful → CrashLeaves answers [] z (view z.device).state (view new).state) c.self.view_is
     (λ old.
     let keeps = keeps_of c.self.inside.broken answers plan head side s (view device).state c.if-self.false (c.self.invariant.2 old) in
-    let begun = c.in-Ok.ensures.begun old plan head side s ring free keeps in
+    let begun = c.in-Ok.ensures.free.begun old plan head side s ring free keeps in
     let further = told_further answers plan together head head side s (view device).state (view new).state still begun in
     record {
-      later = c.in-Ok.ensures.later old keeps.durable;
+      later = c.in-Ok.ensures.free.later old keeps.durable;
       images = λ whole. from_start answers plan together head side s [] (view device).state (view new).state (λ d. g.met.D.Disk.only_now device d old) still keeps further;
       further = λ whole. further;
       short = keeps_since plan c.told_in_parts.ensures.one_answer k.base together head head side side s s (view device).state (view new).state low low begun;
@@ -137,10 +137,10 @@ returns-in-Err-Device-clause-crash g c =
     subst (λ (z : Keeping g.row.D.Denot). (g.D.Disk.view z.device).lawful → CrashLeaves answers [] z (view z.device).state (view new).state) c.self.view_is
     (λ old.
     let keeps = keeps_of c.self.inside.broken answers plan head side s (view device).state c.if-self.false (c.self.invariant.2 old) in
-    let begun = c.in-Err-Device.ensures.begun old plan head side s ring free keeps in
+    let begun = c.in-Err-Device.ensures.free.begun old plan head side s ring free keeps in
     let further = told_further answers plan together head head side s (view device).state (view new).state still begun in
     record {
-      later = c.in-Err-Device.ensures.later old keeps.durable;
+      later = c.in-Err-Device.ensures.free.later old keeps.durable;
       images = λ whole. from_start answers plan together head side s [] (view device).state (view new).state (λ d. g.met.D.Disk.only_now device d old) still keeps further;
       further = λ whole. further;
       short = keeps_since plan c.told_in_parts.ensures.one_answer k.base together head head side side s s (view device).state (view new).state low low begun;

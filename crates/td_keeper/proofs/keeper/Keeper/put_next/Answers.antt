@@ -67,7 +67,7 @@ returns-in-Ok-clause-further g c =
     (λ old whole.
     let keeps = keeps_of c.self.inside.broken answers plan head side s (view device).state whole (c.self.invariant.2 old) in
     either answers plan c.told_in_parts.ensures.together head side s y (view device).state (view c.submit_group.new.device).state side (with_more s y) still more holds
-    (c.in-Ok.ensures.begun old plan head side s ring room taken.fresh taken.lawful keeps)))
+    (c.in-Ok.ensures.group.begun old plan head side s ring room taken.fresh taken.lawful keeps)))
 
 pub returns-in-Ok-clause-images : goal.returns-in-Ok-clause-images
 returns-in-Ok-clause-images g c old whole =
@@ -135,7 +135,7 @@ invariant_of-self-in-Ok g c =
           let keeps = keeps_of c.self.inside.broken answers plan head side s (view device).state taken.whole (c.self.invariant.2 old) in
           subst (λ (v : List Submitted). HeldWhere c.self.inside.broken answers plan head side (standing_from c.self.inside.checkpoint v) (view new).state) (sym items)
           (held_of c.self.inside.broken answers plan head side (with_more s x) (view new).state taken.whole
-          (subst (λ (l : List Submitted). Keeps plan head side (with_more s l) (view new).state) same (c.in-Ok.ensures.done old plan head side s ring room taken.fresh taken.lawful keeps))),
+          (subst (λ (l : List Submitted). Keeps plan head side (with_more s l) (view new).state) same (c.in-Ok.ensures.group.done old plan head side s ring room taken.fresh taken.lawful keeps))),
       c.greatest_request-self-inside.ensures ∙ (ap (λ (l : List Submitted). greatest c.self.inside.last_request l) c.deref-in-Ok.ensures.value ∙ (ap (λ (n : ℕ). greatest n x) c.self.invariant.3
           ∙ (sym (greatest_more c.self.inside.checkpoint.last c.self.inside.submitted.items x) ∙ ap (greatest c.self.inside.checkpoint.last) (sym items)))),
       λ l. none_beyond c.self.inside.broken plan k.base (view new).state taken.whole,
@@ -167,7 +167,7 @@ returns-in-Device-clause-further g c =
     (λ old whole.
     let keeps = keeps_of c.self.inside.broken answers plan head side s (view device).state whole (c.self.invariant.2 old) in
     either answers plan c.told_in_parts.ensures.together head side s y (view device).state (view c.submit_group.new.device).state side (with_more s y) still more holds
-    (c.in-Err.ensures.begun old plan head side s ring room taken.fresh taken.lawful keeps)))
+    (c.in-Err.ensures.group.begun old plan head side s ring room taken.fresh taken.lawful keeps)))
 
 pub returns-in-Device-clause-images : goal.returns-in-Device-clause-images
 returns-in-Device-clause-images g c old whole =
@@ -201,7 +201,7 @@ returns-in-Memory-clause-further g c =
     (λ old whole.
     let keeps = keeps_of c.self.inside.broken answers plan head side s (view device).state whole (c.self.invariant.2 old) in
     either answers plan c.told_in_parts.ensures.together head side s y (view device).state (view c.submit_group.new.device).state side (with_more s y) still more holds
-    (c.in-Err.ensures.begun old plan head side s ring room taken.fresh taken.lawful keeps)))
+    (c.in-Err.ensures.group.begun old plan head side s ring room taken.fresh taken.lawful keeps)))
 
 pub returns-in-Memory-clause-images : goal.returns-in-Memory-clause-images
 returns-in-Memory-clause-images g c old whole =
@@ -236,20 +236,20 @@ invariant_of-self-in-Device g c =
       λ l.
           let old = c.in-Err.ensures.device.lawful.1 l in
           let keeps = keeps_of c.self.inside.broken answers plan head side s (view device).state taken.whole (c.self.invariant.2 old) in
-          let later : (view device).state.moment ≤ (view new).state.moment = c.in-Err.ensures.later old keeps.durable in
+          let later : (view device).state.moment ≤ (view new).state.moment = c.in-Err.ensures.group.later old keeps.durable in
           subst (λ (v : List Submitted). HeldWhere true answers plan head side (standing_from c.self.inside.checkpoint v) (view new).state) (sym c.reserve.ensures.items)
           (held answers plan head side s y (view device).state.moment (view new).state (λ d now. g.met.D.Disk.counts_now new (view device).state.moment d l later now)
           (from_start answers plan c.told_in_parts.ensures.together head side s y (view device).state (view new).state (λ d. g.met.D.Disk.only_now device d old) still keeps
           (either answers plan c.told_in_parts.ensures.together head side s y (view device).state (view new).state side (with_more s y) still more holds
-          (c.in-Err.ensures.begun old plan head side s ring room taken.fresh taken.lawful keeps)))),
+          (c.in-Err.ensures.group.begun old plan head side s ring room taken.fresh taken.lawful keeps)))),
       subst (λ (v : List Submitted). c.self.inside.last_request ≡ greatest c.self.inside.checkpoint.last v) (sym c.reserve.ensures.items) c.self.invariant.3,
       λ l.
           let old = c.in-Err.ensures.device.lawful.1 l in
           let keeps = keeps_of c.self.inside.broken answers plan head side s (view device).state taken.whole (c.self.invariant.2 old) in
-          let later : (view device).state.moment ≤ (view new).state.moment = c.in-Err.ensures.later old keeps.durable in
+          let later : (view device).state.moment ≤ (view new).state.moment = c.in-Err.ensures.group.later old keeps.durable in
           keeps_to plan c.told_in_parts.ensures.one_answer k.base s (with_more s y) (view device).state.moment (view new).state (λ d now. g.met.D.Disk.counts_now new (view device).state.moment d l later now)
           (either_told plan c.told_in_parts.ensures.together head head side side s (with_more s y) (view device).state (view new).state (λ d. g.met.D.Disk.only_now device d old) keeps
-          (c.in-Err.ensures.begun old plan head side s ring room taken.fresh taken.lawful keeps))
+          (c.in-Err.ensures.group.begun old plan head side s ring room taken.fresh taken.lawful keeps))
           c.self.invariant.1.from_checkpoint c.self.invariant.1.from_checkpoint,
     )
 
@@ -276,7 +276,7 @@ invariant_of-self-in-Memory g c =
           let keeps = keeps_of c.self.inside.broken answers plan head side s (view device).state taken.whole (c.self.invariant.2 old) in
           let memory : c.in-Err.refusal ≡ JournalError.Memory = c.in-Memory.is in
           subst (λ (v : List Submitted). HeldWhere c.self.inside.broken answers plan head side (standing_from c.self.inside.checkpoint v) (view new).state) (sym c.reserve.ensures.items)
-          (held_of c.self.inside.broken answers plan head side s (view new).state taken.whole (c.in-Err.ensures.kept (ap as_err memory) old plan head side s keeps)),
+          (held_of c.self.inside.broken answers plan head side s (view new).state taken.whole (c.in-Err.ensures.group.kept (ap as_err memory) old plan head side s keeps)),
       subst (λ (v : List Submitted). c.self.inside.last_request ≡ greatest c.self.inside.checkpoint.last v) (sym c.reserve.ensures.items) c.self.invariant.3,
       λ l. none_beyond c.self.inside.broken plan k.base (view new).state taken.whole,
     )
@@ -285,7 +285,7 @@ pub returns-in-Memory-clause-unwritten : goal.returns-in-Memory-clause-unwritten
 returns-in-Memory-clause-unwritten g c is =
     let memory : c.in-Err.refusal ≡ JournalError.Memory = c.in-Memory.is in
     subst (λ (z : Keeping g.row.D.Denot). (g.D.Disk.view z.device).lawful → CrashSafe Unchanged (g.D.Disk.view z.device).state (g.D.Disk.view c.submit_group.new.device).state) c.self.view_is
-    (λ old. c.in-Err.ensures.unwritten (ap as_err memory) old)
+    (λ old. c.in-Err.ensures.group.unwritten (ap as_err memory) old)
 
 pub returns-in-Ok-clause-later : goal.returns-in-Ok-clause-later
 returns-in-Ok-clause-later g c =
@@ -298,7 +298,7 @@ returns-in-Ok-clause-later g c =
     let side = c.self.inside.checkpoint.slot in
     let whole : c.self.inside.broken ≡ false = ap (λ (z : Keeping g.row.D.Denot). z.broken) c.self.view_is ∙ c.requires.whole in
     subst (λ (z : Keeping g.row.D.Denot). (g.D.Disk.view z.device).lawful → (view z.device).state.moment ≤ (view c.submit_group.new.device).state.moment) c.self.view_is
-    (λ old. c.in-Ok.ensures.later old (keeps_of c.self.inside.broken answers plan head side s (view device).state whole (c.self.invariant.2 old)).durable)
+    (λ old. c.in-Ok.ensures.group.later old (keeps_of c.self.inside.broken answers plan head side s (view device).state whole (c.self.invariant.2 old)).durable)
 
 pub returns-in-Device-clause-later : goal.returns-in-Device-clause-later
 returns-in-Device-clause-later g c =
@@ -311,7 +311,7 @@ returns-in-Device-clause-later g c =
     let side = c.self.inside.checkpoint.slot in
     let whole : c.self.inside.broken ≡ false = ap (λ (z : Keeping g.row.D.Denot). z.broken) c.self.view_is ∙ c.requires.whole in
     subst (λ (z : Keeping g.row.D.Denot). (g.D.Disk.view z.device).lawful → (view z.device).state.moment ≤ (view c.submit_group.new.device).state.moment) c.self.view_is
-    (λ old. c.in-Err.ensures.later old (keeps_of c.self.inside.broken answers plan head side s (view device).state whole (c.self.invariant.2 old)).durable)
+    (λ old. c.in-Err.ensures.group.later old (keeps_of c.self.inside.broken answers plan head side s (view device).state whole (c.self.invariant.2 old)).durable)
 
 pub returns-then-is_err-clause-nothing : goal.returns-then-is_err-clause-nothing
 returns-then-is_err-clause-nothing g c =
@@ -335,7 +335,7 @@ returns-in-Memory-clause-nothing g c =
     inr (subst (λ (z : Keeping g.row.D.Denot). (g.D.Disk.view z.device).lawful → z.broken ≡ false → AdvancesSince answers z.plan z.standing [] (last_epoch z.standing) (view z.device).state (view c.submit_group.new.device).state) c.self.view_is
     (λ old whole.
     let keeps = keeps_of c.self.inside.broken answers plan head side s (view device).state whole (c.self.invariant.2 old) in
-    unwritten answers plan c.told_in_parts.ensures.together head side s [] (view device).state (view c.submit_group.new.device).state (c.in-Err.ensures.unwritten (ap as_err memory) old) still keeps))
+    unwritten answers plan c.told_in_parts.ensures.together head side s [] (view device).state (view c.submit_group.new.device).state (c.in-Err.ensures.group.unwritten (ap as_err memory) old) still keeps))
 
 pub returns-in-Memory-clause-unchanged : goal.returns-in-Memory-clause-unchanged
 returns-in-Memory-clause-unchanged g c = search rules
@@ -375,7 +375,7 @@ returns-in-Ok-clause-all_or_none g c =
     (λ old whole.
     let keeps = keeps_of c.self.inside.broken g.L.Law.answers plan head side s (view device).state whole (c.self.invariant.2 old) in
     one_or_other plan c.told_in_parts.ensures.together head side s (with_more s y) (view device).state (view c.submit_group.new.device).state (λ d. g.met.D.Disk.only_now device d old) keeps
-    (c.in-Ok.ensures.begun old plan head side s ring room taken.fresh taken.lawful keeps)))
+    (c.in-Ok.ensures.group.begun old plan head side s ring room taken.fresh taken.lawful keeps)))
 
 pub returns-in-Device-clause-all_or_none : goal.returns-in-Device-clause-all_or_none
 returns-in-Device-clause-all_or_none g c =
@@ -398,7 +398,7 @@ returns-in-Device-clause-all_or_none g c =
     (λ old whole.
     let keeps = keeps_of c.self.inside.broken g.L.Law.answers plan head side s (view device).state whole (c.self.invariant.2 old) in
     one_or_other plan c.told_in_parts.ensures.together head side s (with_more s y) (view device).state (view c.submit_group.new.device).state (λ d. g.met.D.Disk.only_now device d old) keeps
-    (c.in-Err.ensures.begun old plan head side s ring room taken.fresh taken.lawful keeps)))
+    (c.in-Err.ensures.group.begun old plan head side s ring room taken.fresh taken.lawful keeps)))
 
 pub returns-in-Memory-clause-all_or_none : goal.returns-in-Memory-clause-all_or_none
 returns-in-Memory-clause-all_or_none g c =
@@ -421,7 +421,7 @@ returns-in-Memory-clause-all_or_none g c =
     (λ old whole.
     let keeps = keeps_of c.self.inside.broken g.L.Law.answers plan head side s (view device).state whole (c.self.invariant.2 old) in
     one_or_other plan c.told_in_parts.ensures.together head side s (with_more s y) (view device).state (view c.submit_group.new.device).state (λ d. g.met.D.Disk.only_now device d old) keeps
-    (c.in-Err.ensures.begun old plan head side s ring room taken.fresh taken.lawful keeps)))
+    (c.in-Err.ensures.group.begun old plan head side s ring room taken.fresh taken.lawful keeps)))
 
 pub returns-then-is_err-clause-all_or_none : goal.returns-then-is_err-clause-all_or_none
 returns-then-is_err-clause-all_or_none g c =
@@ -462,7 +462,7 @@ returns-in-Ok-clause-short g c =
     (λ old.
     let keeps = keeps_of c.self.inside.broken g.L.Law.answers plan head side s (view device).state taken.whole (c.self.invariant.2 old) in
     keeps_since plan c.told_in_parts.ensures.one_answer k.base c.told_in_parts.ensures.together head head side side s (with_more s y) (view device).state (view c.submit_group.new.device).state low low
-    (c.in-Ok.ensures.begun old plan head side s ring room taken.fresh taken.lawful keeps))
+    (c.in-Ok.ensures.group.begun old plan head side s ring room taken.fresh taken.lawful keeps))
 
 pub returns-in-Device-clause-short : goal.returns-in-Device-clause-short
 returns-in-Device-clause-short g c =
@@ -483,7 +483,7 @@ returns-in-Device-clause-short g c =
     (λ old.
     let keeps = keeps_of c.self.inside.broken g.L.Law.answers plan head side s (view device).state taken.whole (c.self.invariant.2 old) in
     keeps_since plan c.told_in_parts.ensures.one_answer k.base c.told_in_parts.ensures.together head head side side s (with_more s y) (view device).state (view c.submit_group.new.device).state low low
-    (c.in-Err.ensures.begun old plan head side s ring room taken.fresh taken.lawful keeps))
+    (c.in-Err.ensures.group.begun old plan head side s ring room taken.fresh taken.lawful keeps))
 
 pub returns-in-Memory-clause-short : goal.returns-in-Memory-clause-short
 returns-in-Memory-clause-short g c =
@@ -504,4 +504,4 @@ returns-in-Memory-clause-short g c =
     (λ old.
     let keeps = keeps_of c.self.inside.broken g.L.Law.answers plan head side s (view device).state taken.whole (c.self.invariant.2 old) in
     keeps_since plan c.told_in_parts.ensures.one_answer k.base c.told_in_parts.ensures.together head head side side s (with_more s y) (view device).state (view c.submit_group.new.device).state low low
-    (c.in-Err.ensures.begun old plan head side s ring room taken.fresh taken.lawful keeps))
+    (c.in-Err.ensures.group.begun old plan head side s ring room taken.fresh taken.lawful keeps))

@@ -40,7 +40,7 @@ returns-in-Ok-clause-told g c =
     subst (λ (z : Keeping g.row.D.Denot). (g.D.Disk.view z.device).lawful → z.broken ≡ false → (i : List ℕ) → (view new).state.since (view z.device).state.moment i → Told z.plan i (Stood z.standing)) c.self.view_is
     (λ old whole.
     let keeps = keeps_of c.self.inside.broken answers plan head side s (view device).state whole (c.self.invariant.2 old) in
-    told_since answers plan c.told_in_parts.ensures.together head (raised head) side s (view device).state (view new).state (λ d. g.met.D.Disk.only_now device d old) keeps (c.in-Ok.ensures.begun old side s keeps))
+    told_since answers plan c.told_in_parts.ensures.together head (raised head) side s (view device).state (view new).state (λ d. g.met.D.Disk.only_now device d old) keeps (c.in-Ok.ensures.head.begun old side s keeps))
 
 pub returns-in-Ok-clause-further : goal.returns-in-Ok-clause-further
 returns-in-Ok-clause-further g c =
@@ -56,7 +56,7 @@ returns-in-Ok-clause-further g c =
     subst (λ (z : Keeping g.row.D.Denot). (g.D.Disk.view z.device).lawful → z.broken ≡ false → AdvancesSince answers z.plan z.standing [] (last_epoch z.standing) (view z.device).state (view new).state) c.self.view_is
     (λ old whole.
     let keeps = keeps_of c.self.inside.broken answers plan head side s (view device).state whole (c.self.invariant.2 old) in
-    told_further answers plan c.told_in_parts.ensures.together head (raised head) side s (view device).state (view new).state still (c.in-Ok.ensures.begun old side s keeps))
+    told_further answers plan c.told_in_parts.ensures.together head (raised head) side s (view device).state (view new).state still (c.in-Ok.ensures.head.begun old side s keeps))
 
 pub returns-in-Device-clause-told : goal.returns-in-Device-clause-told
 returns-in-Device-clause-told g c =
@@ -71,7 +71,7 @@ returns-in-Device-clause-told g c =
     subst (λ (z : Keeping g.row.D.Denot). (g.D.Disk.view z.device).lawful → z.broken ≡ false → (i : List ℕ) → (view new).state.since (view z.device).state.moment i → Told z.plan i (Stood z.standing)) c.self.view_is
     (λ old whole.
     let keeps = keeps_of c.self.inside.broken answers plan head side s (view device).state whole (c.self.invariant.2 old) in
-    told_since answers plan c.told_in_parts.ensures.together head (raised head) side s (view device).state (view new).state (λ d. g.met.D.Disk.only_now device d old) keeps (c.in-Err.ensures.begun old side s keeps))
+    told_since answers plan c.told_in_parts.ensures.together head (raised head) side s (view device).state (view new).state (λ d. g.met.D.Disk.only_now device d old) keeps (c.in-Err.ensures.head.begun old side s keeps))
 
 pub returns-in-Device-clause-further : goal.returns-in-Device-clause-further
 returns-in-Device-clause-further g c =
@@ -87,7 +87,7 @@ returns-in-Device-clause-further g c =
     subst (λ (z : Keeping g.row.D.Denot). (g.D.Disk.view z.device).lawful → z.broken ≡ false → AdvancesSince answers z.plan z.standing [] (last_epoch z.standing) (view z.device).state (view new).state) c.self.view_is
     (λ old whole.
     let keeps = keeps_of c.self.inside.broken answers plan head side s (view device).state whole (c.self.invariant.2 old) in
-    told_further answers plan c.told_in_parts.ensures.together head (raised head) side s (view device).state (view new).state still (c.in-Err.ensures.begun old side s keeps))
+    told_further answers plan c.told_in_parts.ensures.together head (raised head) side s (view device).state (view new).state still (c.in-Err.ensures.head.begun old side s keeps))
 
 pub invariant_of-self-in-Device : goal.invariant_of-self-in-Device
 invariant_of-self-in-Device g c =
@@ -106,17 +106,17 @@ invariant_of-self-in-Device g c =
       λ l.
           let old = c.in-Err.ensures.device.lawful.1 l in
           let keeps = keeps_of c.self.inside.broken answers plan head side s (view device).state c.if-self.false (c.self.invariant.2 old) in
-          let later : (view device).state.moment ≤ (view new).state.moment = c.in-Err.ensures.later old keeps.durable in
+          let later : (view device).state.moment ≤ (view new).state.moment = c.in-Err.ensures.head.later old keeps.durable in
           held answers plan head side s [] (view device).state.moment (view new).state (λ d now. g.met.D.Disk.counts_now new (view device).state.moment d l later now)
           (from_start answers plan c.told_in_parts.ensures.together head side s [] (view device).state (view new).state (λ d. g.met.D.Disk.only_now device d old) still keeps
-          (told_further answers plan c.told_in_parts.ensures.together head (raised head) side s (view device).state (view new).state still (c.in-Err.ensures.begun old side s keeps))),
+          (told_further answers plan c.told_in_parts.ensures.together head (raised head) side s (view device).state (view new).state still (c.in-Err.ensures.head.begun old side s keeps))),
       c.self.invariant.3,
       λ l.
           let old = c.in-Err.ensures.device.lawful.1 l in
           let keeps = keeps_of c.self.inside.broken answers plan head side s (view device).state c.if-self.false (c.self.invariant.2 old) in
-          let later : (view device).state.moment ≤ (view new).state.moment = c.in-Err.ensures.later old keeps.durable in
+          let later : (view device).state.moment ≤ (view new).state.moment = c.in-Err.ensures.head.later old keeps.durable in
           keeps_to plan c.told_in_parts.ensures.one_answer k.base s s (view device).state.moment (view new).state (λ d now. g.met.D.Disk.counts_now new (view device).state.moment d l later now)
-          (either_told plan c.told_in_parts.ensures.together head (raised head) side side s s (view device).state (view new).state (λ d. g.met.D.Disk.only_now device d old) keeps (c.in-Err.ensures.begun old side s keeps))
+          (either_told plan c.told_in_parts.ensures.together head (raised head) side side s s (view device).state (view new).state (λ d. g.met.D.Disk.only_now device d old) keeps (c.in-Err.ensures.head.begun old side s keeps))
           c.self.invariant.1.from_checkpoint c.self.invariant.1.from_checkpoint,
     )
 

@@ -46,10 +46,10 @@ invariant_of-self-in-Ok g c =
     let is : IsKeeping k answers = subst (λ (t : Option Taken). IsKeeping (keeping_of device plan head checkpoint w c.self.inside.broken t c.self.inside.collected c.self.inside.queue.items c.self.inside.watch) answers) at c.self.invariant.1 in
     let wide : head.shape.k ≤ 1048576 = subst (λ (z : Slots). z.k ≤ 1048576) c.slots_of-slots.ensures.slots c.slots_of-slots.ensures.limit in
     let slots : c.slots_of-slots.result ≡ slots_of head.shape = c.slots_of-slots.ensures.slots in
-    let few : length cut.states ≤ head.shape.k = subst (λ (z : Slots). length cut.states ≤ z.k) slots (not_above c.slots_of-slots.result.k (length cut.states) (λ lt. let z = c.in-Ok.ensures.too_many.1 lt in absurd (cc z))) in
+    let few : length cut.states ≤ head.shape.k = subst (λ (z : Slots). length cut.states ≤ z.k) slots (not_above c.slots_of-slots.result.k (length cut.states) (λ lt. let z = c.in-Ok.ensures.refused.too_many.1 lt in absurd (cc z))) in
     let of_folds : are_states (folds_of plan) cut.states ≡ true = lawful answers k is c.states_of_folds.ensures c.states_are_in_order.ensures.written c.states_are_in_order.ensures.named c.vertices-plan.ensures.lawful c.list-in_order.ensures.ordered in
     let narrow : head.shape.k < 2 ^ 32 = omega arith in
-    let is_a_cut : IsCut plan head.shape s n cut.states = is_cut answers k is of_folds few narrow c.in-Ok.ensures.fits in
+    let is_a_cut : IsCut plan head.shape s n cut.states = is_cut answers k is of_folds few narrow c.in-Ok.ensures.fits.fits in
     let epoch : cut.epoch ≡ s.epoch + n = omega (arith, is.from_checkpoint) in
     let last : c.last_of_first-last.result ≡ greatest s.last (take n w) = c.last_of_first-last.ensures in
     let d = c.checkpoint_of.result in
@@ -66,7 +66,7 @@ invariant_of-self-in-Ok g c =
           let old = c.in-Ok.ensures.device.lawful.1 l in
           let keeps = keeps_of c.self.inside.broken answers plan head side s (view device).state c.if-self.false (c.self.invariant.2 old) in
           subst (λ (z : Keeping g.row.D.Denot). HeldWhere c.self.inside.broken answers plan head z.side z.standing (view new).state) (sym now)
-          (held_of c.self.inside.broken answers plan head (side_after side n) (cut_at s n cut.states) (view new).state c.if-self.false (c.in-Ok.ensures.done old plan head s n slots epoch last is_a_cut keeps)),
+          (held_of c.self.inside.broken answers plan head (side_after side n) (cut_at s n cut.states) (view new).state c.if-self.false (c.in-Ok.ensures.cut.done old plan head s n slots epoch last is_a_cut keeps)),
       c.self.invariant.3 ∙ sym ((λ i. greatest ((c.checkpoint_of.ensures.last ∙ last) i) (c.drop_first.ensures i)) ∙ cut_last s.last n w),
       λ l. none_beyond c.self.inside.broken plan (base_of d c.take_waiting.new.taken) (view new).state c.if-self.false,
     )
@@ -91,10 +91,10 @@ invariant_of-self-in-Device g c =
     let is : IsKeeping k answers = subst (λ (t : Option Taken). IsKeeping (keeping_of device plan head checkpoint w c.self.inside.broken t c.self.inside.collected c.self.inside.queue.items c.self.inside.watch) answers) at c.self.invariant.1 in
     let wide : head.shape.k ≤ 1048576 = subst (λ (z : Slots). z.k ≤ 1048576) c.slots_of-slots.ensures.slots c.slots_of-slots.ensures.limit in
     let slots : c.slots_of-slots.result ≡ slots_of head.shape = c.slots_of-slots.ensures.slots in
-    let few : length cut.states ≤ head.shape.k = subst (λ (z : Slots). length cut.states ≤ z.k) slots (not_above c.slots_of-slots.result.k (length cut.states) (λ lt. let z = c.in-Err.ensures.too_many.1 lt in let d = c.in-Device.is in absurd (cc (z, d)))) in
+    let few : length cut.states ≤ head.shape.k = subst (λ (z : Slots). length cut.states ≤ z.k) slots (not_above c.slots_of-slots.result.k (length cut.states) (λ lt. let z = c.in-Err.ensures.refused.too_many.1 lt in let d = c.in-Device.is in absurd (cc (z, d)))) in
     let of_folds : are_states (folds_of plan) cut.states ≡ true = lawful answers k is c.states_of_folds.ensures c.states_are_in_order.ensures.written c.states_are_in_order.ensures.named c.vertices-plan.ensures.lawful c.list-in_order.ensures.ordered in
     let narrow : head.shape.k < 2 ^ 32 = omega arith in
-    let is_a_cut : IsCut plan head.shape s n cut.states = is_cut answers k is of_folds few narrow (c.in-Err.ensures.fits_too (ap as_err c.in-Device.is)) in
+    let is_a_cut : IsCut plan head.shape s n cut.states = is_cut answers k is of_folds few narrow (c.in-Err.ensures.fits.fits_too (ap as_err c.in-Device.is)) in
     let epoch : cut.epoch ≡ s.epoch + n = omega (arith, is.from_checkpoint) in
     let last : c.last_of_first-last.result ≡ greatest s.last (take n w) = c.last_of_first-last.ensures in
     let next : Advance (states_by answers plan) (with_more s []) (cut_at s n cut.states) = advance answers k is (c.standings_advance.ensures.cut (tree_of plan) s n (most answers k is)) in
@@ -104,19 +104,19 @@ invariant_of-self-in-Device g c =
       λ l.
           let old = c.in-Err.ensures.device.lawful.1 l in
           let keeps = keeps_of c.self.inside.broken answers plan head side s (view device).state c.if-self.false (c.self.invariant.2 old) in
-          let later : (view device).state.moment ≤ (view new).state.moment = c.in-Err.ensures.later old keeps.durable in
+          let later : (view device).state.moment ≤ (view new).state.moment = c.in-Err.ensures.cut.later old keeps.durable in
           held answers plan head side s [] (view device).state.moment (view new).state (λ d now. g.met.D.Disk.counts_now new (view device).state.moment d l later now)
           (from_start answers plan c.told_in_parts.ensures.together head side s [] (view device).state (view new).state (λ d. g.met.D.Disk.only_now device d old) still keeps
           (either answers plan c.told_in_parts.ensures.together head side s [] (view device).state (view new).state (side_after side n) (cut_at s n cut.states) still next holds
-          (c.in-Err.ensures.begun old plan head s n slots epoch last is_a_cut keeps))),
+          (c.in-Err.ensures.cut.begun old plan head s n slots epoch last is_a_cut keeps))),
       c.self.invariant.3,
       λ l.
           let old = c.in-Err.ensures.device.lawful.1 l in
           let keeps = keeps_of c.self.inside.broken answers plan head side s (view device).state c.if-self.false (c.self.invariant.2 old) in
-          let later : (view device).state.moment ≤ (view new).state.moment = c.in-Err.ensures.later old keeps.durable in
+          let later : (view device).state.moment ≤ (view new).state.moment = c.in-Err.ensures.cut.later old keeps.durable in
           keeps_to plan c.told_in_parts.ensures.one_answer cut.epoch s (cut_at s n cut.states) (view device).state.moment (view new).state (λ d now. g.met.D.Disk.counts_now new (view device).state.moment d l later now)
           (either_told plan c.told_in_parts.ensures.together head head side (side_after side n) s (cut_at s n cut.states) (view device).state (view new).state (λ d. g.met.D.Disk.only_now device d old) keeps
-          (c.in-Err.ensures.begun old plan head s n slots epoch last is_a_cut keeps))
+          (c.in-Err.ensures.cut.begun old plan head s n slots epoch last is_a_cut keeps))
           is.from_checkpoint (omega (arith, epoch)),
     )
 
@@ -153,10 +153,10 @@ returns-in-Ok-clause-crash g c =
     let is : IsKeeping k answers = subst (λ (t : Option Taken). IsKeeping (keeping_of device plan head checkpoint w c.self.inside.broken t c.self.inside.collected c.self.inside.queue.items c.self.inside.watch) answers) at c.self.invariant.1 in
     let wide : head.shape.k ≤ 1048576 = subst (λ (z : Slots). z.k ≤ 1048576) c.slots_of-slots.ensures.slots c.slots_of-slots.ensures.limit in
     let slots : c.slots_of-slots.result ≡ slots_of head.shape = c.slots_of-slots.ensures.slots in
-    let few : length cut.states ≤ head.shape.k = subst (λ (z : Slots). length cut.states ≤ z.k) slots (not_above c.slots_of-slots.result.k (length cut.states) (λ lt. let z = c.in-Ok.ensures.too_many.1 lt in absurd (cc z))) in
+    let few : length cut.states ≤ head.shape.k = subst (λ (z : Slots). length cut.states ≤ z.k) slots (not_above c.slots_of-slots.result.k (length cut.states) (λ lt. let z = c.in-Ok.ensures.refused.too_many.1 lt in absurd (cc z))) in
     let of_folds : are_states (folds_of plan) cut.states ≡ true = lawful answers k is c.states_of_folds.ensures c.states_are_in_order.ensures.written c.states_are_in_order.ensures.named c.vertices-plan.ensures.lawful c.list-in_order.ensures.ordered in
     let narrow : head.shape.k < 2 ^ 32 = omega arith in
-    let is_a_cut : IsCut plan head.shape s n cut.states = is_cut answers k is of_folds few narrow c.in-Ok.ensures.fits in
+    let is_a_cut : IsCut plan head.shape s n cut.states = is_cut answers k is of_folds few narrow c.in-Ok.ensures.fits.fits in
     let epoch : cut.epoch ≡ s.epoch + n = omega (arith, is.from_checkpoint) in
     let last : c.last_of_first-last.result ≡ greatest s.last (take n w) = c.last_of_first-last.ensures in
     let next : Advance (states_by answers plan) (with_more s []) (cut_at s n cut.states) = advance answers k is (c.standings_advance.ensures.cut (tree_of plan) s n (most answers k is)) in
@@ -166,10 +166,10 @@ returns-in-Ok-clause-crash g c =
     subst (λ (z : Keeping g.row.D.Denot). (g.D.Disk.view z.device).lawful → CrashLeaves answers [] z (view z.device).state (view new).state) c.self.view_is
     (λ old.
     let keeps = keeps_of c.self.inside.broken answers plan head side s (view device).state c.if-self.false (c.self.invariant.2 old) in
-    let begun = c.in-Ok.ensures.begun old plan head s n slots epoch last is_a_cut keeps in
+    let begun = c.in-Ok.ensures.cut.begun old plan head s n slots epoch last is_a_cut keeps in
     let further = either answers plan together head side s [] (view device).state (view new).state (side_after side n) (cut_at s n cut.states) still next holds begun in
     record {
-      later = c.in-Ok.ensures.later old keeps.durable;
+      later = c.in-Ok.ensures.cut.later old keeps.durable;
       images = λ whole. from_start answers plan together head side s [] (view device).state (view new).state (λ d. g.met.D.Disk.only_now device d old) still keeps further;
       further = λ whole. further;
       short = keeps_since plan c.told_in_parts.ensures.one_answer (base_of checkpoint c.self.inside.taken) together head head side (side_after side n) s (cut_at s n cut.states) (view device).state (view new).state
@@ -196,10 +196,10 @@ returns-in-Device-clause-crash g c =
     let is : IsKeeping k answers = subst (λ (t : Option Taken). IsKeeping (keeping_of device plan head checkpoint w c.self.inside.broken t c.self.inside.collected c.self.inside.queue.items c.self.inside.watch) answers) at c.self.invariant.1 in
     let wide : head.shape.k ≤ 1048576 = subst (λ (z : Slots). z.k ≤ 1048576) c.slots_of-slots.ensures.slots c.slots_of-slots.ensures.limit in
     let slots : c.slots_of-slots.result ≡ slots_of head.shape = c.slots_of-slots.ensures.slots in
-    let few : length cut.states ≤ head.shape.k = subst (λ (z : Slots). length cut.states ≤ z.k) slots (not_above c.slots_of-slots.result.k (length cut.states) (λ lt. let z = c.in-Err.ensures.too_many.1 lt in let d = c.in-Device.is in absurd (cc (z, d)))) in
+    let few : length cut.states ≤ head.shape.k = subst (λ (z : Slots). length cut.states ≤ z.k) slots (not_above c.slots_of-slots.result.k (length cut.states) (λ lt. let z = c.in-Err.ensures.refused.too_many.1 lt in let d = c.in-Device.is in absurd (cc (z, d)))) in
     let of_folds : are_states (folds_of plan) cut.states ≡ true = lawful answers k is c.states_of_folds.ensures c.states_are_in_order.ensures.written c.states_are_in_order.ensures.named c.vertices-plan.ensures.lawful c.list-in_order.ensures.ordered in
     let narrow : head.shape.k < 2 ^ 32 = omega arith in
-    let is_a_cut : IsCut plan head.shape s n cut.states = is_cut answers k is of_folds few narrow (c.in-Err.ensures.fits_too (ap as_err c.in-Device.is)) in
+    let is_a_cut : IsCut plan head.shape s n cut.states = is_cut answers k is of_folds few narrow (c.in-Err.ensures.fits.fits_too (ap as_err c.in-Device.is)) in
     let epoch : cut.epoch ≡ s.epoch + n = omega (arith, is.from_checkpoint) in
     let last : c.last_of_first-last.result ≡ greatest s.last (take n w) = c.last_of_first-last.ensures in
     let next : Advance (states_by answers plan) (with_more s []) (cut_at s n cut.states) = advance answers k is (c.standings_advance.ensures.cut (tree_of plan) s n (most answers k is)) in
@@ -209,10 +209,10 @@ returns-in-Device-clause-crash g c =
     subst (λ (z : Keeping g.row.D.Denot). (g.D.Disk.view z.device).lawful → CrashLeaves answers [] z (view z.device).state (view new).state) c.self.view_is
     (λ old.
     let keeps = keeps_of c.self.inside.broken answers plan head side s (view device).state c.if-self.false (c.self.invariant.2 old) in
-    let begun = c.in-Err.ensures.begun old plan head s n slots epoch last is_a_cut keeps in
+    let begun = c.in-Err.ensures.cut.begun old plan head s n slots epoch last is_a_cut keeps in
     let further = either answers plan together head side s [] (view device).state (view new).state (side_after side n) (cut_at s n cut.states) still next holds begun in
     record {
-      later = c.in-Err.ensures.later old keeps.durable;
+      later = c.in-Err.ensures.cut.later old keeps.durable;
       images = λ whole. from_start answers plan together head side s [] (view device).state (view new).state (λ d. g.met.D.Disk.only_now device d old) still keeps further;
       further = λ whole. further;
       short = keeps_since plan c.told_in_parts.ensures.one_answer (base_of checkpoint c.self.inside.taken) together head head side (side_after side n) s (cut_at s n cut.states) (view device).state (view new).state
@@ -221,13 +221,13 @@ returns-in-Device-clause-crash g c =
 
 pub returns-in-TooManyKeys-clause-crash : goal.returns-in-TooManyKeys-clause-crash
 returns-in-TooManyKeys-clause-crash g c old =
-    let same : c.write_states.new.device ≡ c.self.inside.device = ⊎_elim (λ d. (let m = c.in-TooManyKeys.is in absurd (cc (d, m)))) (λ e. e) c.in-Err.ensures.untouched in
+    let same : c.write_states.new.device ≡ c.self.inside.device = ⊎_elim (λ d. (let m = c.in-TooManyKeys.is in absurd (cc (d, m)))) (λ e. e) c.in-Err.ensures.refused.untouched in
     subst (λ (d : g.row.D.Denot). CrashLeaves g.L.Law.answers [] c.args.self.now (g.D.Disk.view c.args.self.now.device).state (g.D.Disk.view d).state) (ap (λ (z : Keeping g.row.D.Denot). z.device) (sym c.self.view_is) ∙ sym same)
     (leaves_as_it_was g.D.Disk.view g.met.D.Disk.only_now g.L.Law.answers c.told_in_parts.ensures.together c.standings_advance.ensures.not_yet c.self.view_is c.self.invariant.2 [] old)
 
 pub returns-in-Memory-clause-crash : goal.returns-in-Memory-clause-crash
 returns-in-Memory-clause-crash g c old =
-    let same : c.write_states.new.device ≡ c.self.inside.device = ⊎_elim (λ d. (let m = c.in-Memory.is in absurd (cc (d, m)))) (λ e. e) c.in-Err.ensures.untouched in
+    let same : c.write_states.new.device ≡ c.self.inside.device = ⊎_elim (λ d. (let m = c.in-Memory.is in absurd (cc (d, m)))) (λ e. e) c.in-Err.ensures.refused.untouched in
     subst (λ (d : g.row.D.Denot). CrashLeaves g.L.Law.answers [] c.args.self.now (g.D.Disk.view c.args.self.now.device).state (g.D.Disk.view d).state) (ap (λ (z : Keeping g.row.D.Denot). z.device) (sym c.self.view_is) ∙ sym same)
     (leaves_as_it_was g.D.Disk.view g.met.D.Disk.only_now g.L.Law.answers c.told_in_parts.ensures.together c.standings_advance.ensures.not_yet c.self.view_is c.self.invariant.2 [] old)
 
@@ -249,10 +249,10 @@ returns-in-Memory-clause-refused g c =
     let k = keeping_of device plan head checkpoint w c.self.inside.broken (Some cut) c.self.inside.collected c.self.inside.queue.items c.self.inside.watch in
     let is : IsKeeping k answers = subst (λ (t : Option Taken). IsKeeping (keeping_of device plan head checkpoint w c.self.inside.broken t c.self.inside.collected c.self.inside.queue.items c.self.inside.watch) answers) at c.self.invariant.1 in
     let slots : c.slots_of-slots.result ≡ slots_of head.shape = c.slots_of-slots.ensures.slots in
-    let few : length cut.states ≤ head.shape.k = subst (λ (z : Slots). length cut.states ≤ z.k) slots (not_above c.slots_of-slots.result.k (length cut.states) (λ lt. let z = c.in-Err.ensures.too_many.1 lt in let m = c.in-Memory.is in absurd (cc (z, m)))) in
+    let few : length cut.states ≤ head.shape.k = subst (λ (z : Slots). length cut.states ≤ z.k) slots (not_above c.slots_of-slots.result.k (length cut.states) (λ lt. let z = c.in-Err.ensures.refused.too_many.1 lt in let m = c.in-Memory.is in absurd (cc (z, m)))) in
     let none : write_refusal (keeping_of device plan head checkpoint w c.self.inside.broken c.self.inside.taken c.self.inside.collected c.self.inside.queue.items c.self.inside.watch) ≡ None =
     subst (λ (t : Option Taken). write_refusal (keeping_of device plan head checkpoint w c.self.inside.broken t c.self.inside.collected c.self.inside.queue.items c.self.inside.watch) ≡ None) (sym at) (write_none k c.if-self.false few) in
-    let same : new ≡ device = ⊎_elim (λ d. (let m = c.in-Memory.is in absurd (cc (d, m)))) (λ e. e) c.in-Err.ensures.untouched in
+    let same : new ≡ device = ⊎_elim (λ d. (let m = c.in-Memory.is in absurd (cc (d, m)))) (λ e. e) c.in-Err.ensures.refused.untouched in
     let waits : c.waits_after-waits.result ≡ cut.waits = c.waits_after-waits.ensures ∙ (ap waits_after c.in-Memory.is ∙ sym c.in-Some.ensures.some.1) in
     record {
       cause = inr (sym (ap (λ (z : Keeping g.row.D.Denot). write_refusal z) c.self.view_is) ∙ none, inl refl);

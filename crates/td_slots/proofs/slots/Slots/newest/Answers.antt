@@ -1,4 +1,4 @@
-use Rattle.std.proofs.Common.{◌≡◌, ℕ, ◌<◌, ◌^◌, true, nat_lt, ◌&&◌, List, Option, Some, None, sym, ap, ◌∙◌, subst, Ok}
+use Rattle.std.proofs.Common.{arith, ◌≡◌, ℕ, Bool, false, ◌<◌, ◌≤◌, ◌^◌, true, nat_lt, ◌&&◌, List, Option, Some, None, sym, ap, ◌∙◌, subst, Ok}
 use Rattle.std.specs.Prelude.{Vec}
 use Rattle.std.specs.declared.alloc.Global.{Global}
 use Rattle.std.proofs.lemmas.Bool.{and_parts, ltb-true}
@@ -7,7 +7,7 @@ use Rattle.td_gate.specs.Fields.{front_in, is_plain}
 use Rattle.td_gate.specs.Region.{opened, payload_of}
 use Rattle.td_slots.specs.Slot.{slot, is_last, is_front, are_states, is_slot, states_in}
 use Rattle.td_slots.specs.Newest.{newest, newest_in}
-use Rattle.td_slots.specs.Parsed.{IsValid, newer_of, chosen_of}
+use Rattle.td_slots.specs.Parsed.{IsValid, newer_of, chosen_of, second_payload_if}
 use Rattle.td_slots.proofs.Reading.{Valid, HasPick, has_newer, picked, both_read}
 use Rattle.td_slots.proofs.slots.Slots.newest.Goals as goal
 
@@ -22,6 +22,21 @@ chosen : (version : ℕ) (folds : List ℕ) (k : ℕ) (a b : Option (Vec ℕ Glo
 chosen version folds k a b o side v va vb newer is =
     let P : List ℕ → Type 0 = λ bytes. is_slot version folds k bytes ≡ true in
     subst (HasPick P) (sym newer ∙ ap chosen_of is) (has_newer P (payload_of a) (payload_of b) (valid_of version folds k a va) (valid_of version folds k b vb))
+
+-- the one that was chosen stands in slot 0 or 1
+abbrev side_of : Option (ℕ × List ℕ) → ℕ
+side_of None = 0
+side_of (Some pick) = pick.0
+
+low_if : (b : Bool) (p q : List ℕ) → (second_payload_if b p q).0 ≤ 1
+low_if true p q = omega arith
+low_if false p q = omega arith
+
+low_side : (a b : Option (List ℕ)) → side_of (newer_of a b) ≤ 1
+low_side None None = omega arith
+low_side (Some p) None = omega arith
+low_side None (Some q) = omega arith
+low_side (Some p) (Some q) = low_if (nat_lt (front_in p).epoch (front_in q).epoch) p q
 
 parts : (version : ℕ) (folds : List ℕ) (k : ℕ) (bytes : List ℕ) → is_slot version folds k bytes ≡ true
     → ((front_in bytes).epoch < 2 ^ 63) × (is_last version (front_in bytes).request ≡ true) × (are_states folds (states_in bytes) ≡ true)
@@ -40,29 +55,18 @@ states_of-requires-clause-valid g c =
     let valid = chosen c.args.version folds k c.in_ok-first.first c.in_ok-second.second c.newer.result c.in-Some.slot p c.in_ok-first.ensures.valid c.in_ok-second.ensures.valid c.newer.ensures c.in-Some.is in
     ap (λ (bytes : List ℕ). are_states folds (states_in bytes)) c.deref-2.ensures.value ∙ (parts c.args.version folds k p.items valid).2
 
-pub returns-clause-small : goal.returns-clause-small
-returns-clause-small g c =
+pub returns-clause-may_be : goal.returns-clause-may_be
+returns-clause-may_be g c =
     let folds = c.args.folds.now in
     let k = c.args.self.now.k in
     let p = c.in-Some.payload in
     let valid = chosen c.args.version folds k c.in_ok-first.first c.in_ok-second.second c.newer.result c.in-Some.slot p c.in_ok-first.ensures.valid c.in_ok-second.ensures.valid c.newer.ensures c.in-Some.is in
-    subst (λ (n : ℕ). n < 2 ^ 63) (sym (ap (λ (f : Front). f.epoch) (c.read-front.ensures ∙ ap front_in c.deref.ensures.value))) (parts c.args.version folds k p.items valid).0
-
-pub returns-clause-last : goal.returns-clause-last
-returns-clause-last g c =
-    let folds = c.args.folds.now in
-    let k = c.args.self.now.k in
-    let p = c.in-Some.payload in
-    let valid = chosen c.args.version folds k c.in_ok-first.first c.in_ok-second.second c.newer.result c.in-Some.slot p c.in_ok-first.ensures.valid c.in_ok-second.ensures.valid c.newer.ensures c.in-Some.is in
-    ap (λ (f : Front). is_last c.args.version f.request) (c.read-front.ensures ∙ ap front_in c.deref.ensures.value) ∙ (parts c.args.version folds k p.items valid).1
-
-pub returns-clause-states : goal.returns-clause-states
-returns-clause-states g c =
-    let folds = c.args.folds.now in
-    let k = c.args.self.now.k in
-    let p = c.in-Some.payload in
-    let valid = chosen c.args.version folds k c.in_ok-first.first c.in_ok-second.second c.newer.result c.in-Some.slot p c.in_ok-first.ensures.valid c.in_ok-second.ensures.valid c.newer.ensures c.in-Some.is in
-    ap (are_states folds) (c.in_ok-states_of.ensures ∙ ap states_in c.deref-2.ensures.value) ∙ (parts c.args.version folds k p.items valid).2
+    record {
+      slot = subst (λ (o : Option (ℕ × List ℕ)). side_of o ≤ 1) (sym c.newer.ensures ∙ ap chosen_of c.in-Some.is) (low_side (payload_of c.in_ok-first.first) (payload_of c.in_ok-second.second));
+      small = subst (λ (n : ℕ). n < 2 ^ 63) (sym (ap (λ (f : Front). f.epoch) (c.read-front.ensures ∙ ap front_in c.deref.ensures.value))) (parts c.args.version folds k p.items valid).0;
+      last = ap (λ (f : Front). is_last c.args.version f.request) (c.read-front.ensures ∙ ap front_in c.deref.ensures.value) ∙ (parts c.args.version folds k p.items valid).1;
+      states = ap (are_states folds) (c.in_ok-states_of.ensures ∙ ap states_in c.deref-2.ensures.value) ∙ (parts c.args.version folds k p.items valid).2;
+    }
 
 pub returns-clause-told : goal.returns-clause-told
 returns-clause-told g c lawful =

@@ -146,7 +146,7 @@ returns-clause-put g c lawful plan sizes s ring room fresh valid durable parts =
     let replaced : Replaces (cell_of at e) (cell_bytes sizes.m e x.request x.batch) (view mid).state.bytes (view new).state.bytes =
     record { others = (read_step (Puts (cell_of at e) (cell_bytes sizes.m e x.request x.batch)) (view mid).state (view new).state durable_mid puts now_2).others; region = is_open.read } in
     let fits : x.request < 2 ^ 64 = omega arith in
-    let small : j.m < 2 ^ 32 = omega (arith, c.requires.records) in
+    let small : j.m < 2 ^ 32 = omega (arith, c.requires.ring.records) in
     let ok : IsCellBatch (inputs_of plan) sizes.m x = record {
       few = subst (λ (k : Journal). length x.batch ≤ k.m) ring c.requires.few;
       room = subst (λ (k : Journal). k.m < 2 ^ 32) ring small;

@@ -21,7 +21,7 @@ returns-in_err-put_first-clause-stopped g c lawful rising durable none t image l
     let still = first.device.lawful.0 lawful in
     let durable_mid = first.durable lawful durable in
     let parts = first.put lawful plan c.requires.may_stand.states c.requires.may_stand.batches rising durable none in
-    let puts = c.in_err-put_first.ensures.crash_safe still (c.durable_is_settled.ensures mid head_a durable_mid) in
+    let puts = c.in_err-put_first.ensures.put.crash_safe still (c.durable_is_settled.ensures mid head_a durable_mid) in
     let room : size_of sizes ≤ length (view mid).state.bytes =
     subst (λ (n : ℕ). size_of sizes ≤ n) (sym (laws.image_size mid (view mid).state.bytes still (laws.reads_image mid still) ∙ first.device.size)) c.requires.bytes in
     ⊎_elim (λ was. ⊎_elim (λ before. inl before) (λ headless. inr (inl headless)) ((first.no_head lawful durable none).each t image le was))
@@ -43,7 +43,7 @@ returns-clause-stopped g c lawful rising durable none t image le left =
     let still = first.device.lawful.0 lawful in
     let durable_mid = first.durable lawful durable in
     let parts = first.put lawful plan c.requires.may_stand.states c.requires.may_stand.batches rising durable none in
-    let puts = c.in_ok-put_first.ensures.crash_safe still (c.durable_is_settled.ensures mid head_a durable_mid) in
+    let puts = c.in_ok-put_first.ensures.put.crash_safe still (c.durable_is_settled.ensures mid head_a durable_mid) in
     let room : size_of sizes ≤ length (view mid).state.bytes =
     subst (λ (n : ℕ). size_of sizes ≤ n) (sym (laws.image_size mid (view mid).state.bytes still (laws.reads_image mid still) ∙ first.device.size)) c.requires.bytes in
     ⊎_elim (λ was. ⊎_elim (λ before. inl before) (λ headless. inr (inl headless)) ((first.no_head lawful durable none).each t image le was))
@@ -67,14 +67,14 @@ returns-clause-copied g c lawful rising durable none =
     let durable_mid = first.durable lawful durable in
     let parts = first.put lawful plan c.requires.may_stand.states c.requires.may_stand.batches rising durable none in
     let settled = c.durable_is_settled.ensures mid head_a durable_mid in
-    let puts = c.in_ok-put_first.ensures.crash_safe still settled in
-    let is_open = c.in_ok-put_first.ensures.open still settled in
+    let puts = c.in_ok-put_first.ensures.put.crash_safe still settled in
+    let is_open = c.in_ok-put_first.ensures.put.is_open still settled in
     let also = c.in_ok-put_first.ensures.device.lawful.0 still in
     let now = laws.counts_now new (view mid).state.moment (view new).state.bytes also puts.later (laws.reads_image new also) in
     let room : size_of sizes ≤ length (view mid).state.bytes =
     subst (λ (n : ℕ). size_of sizes ≤ n) (sym (laws.image_size mid (view mid).state.bytes still (laws.reads_image mid still) ∙ first.device.size)) c.requires.bytes in
     record {
-      durable = c.in_ok-put_first.ensures.durable still;
+      durable = c.in_ok-put_first.ensures.put.durable still;
       tells = headed_tells c.put_leaves_others.ensures parts_are.heads parts_are.heads_slots parts_are.heads_cells c.slots_tell.ensures c.cells_tell.ensures c.first_head_tells.ensures
           plan c.vertices-vertices.ensures.lawful sizes c.bytes-bytes.ensures.limits (standing_of c.args.told.now) (view mid).state.bytes (view new).state.bytes room parts
           (read_step (Puts head_a p) (view mid).state (view new).state durable_mid puts now) is_open.read;

@@ -24,7 +24,7 @@ returns-in_err-write-clause-no_head g c lawful durable none =
     let durable_mid = c.in_ok-put_zeros.ensures.durable lawful in
     opens_in_turn (view c.args.device.now).state (view mid).state (view c.write.new.device).state (c.in_ok-put_zeros.ensures.no_head lawful durable none)
     (opens_none c.put_leaves_others.ensures r _ behind (view mid).state (view c.write.new.device).state durable_mid (c.in_ok-put_zeros.ensures.head lawful durable none)
-    (c.in_err-write.ensures.crash_safe still (c.durable_is_settled.ensures mid r durable_mid)))
+    (c.in_err-write.ensures.put.crash_safe still (c.durable_is_settled.ensures mid r durable_mid)))
 
 pub returns-clause-no_head : goal.returns-clause-no_head
 returns-clause-no_head g c lawful durable none =
@@ -36,7 +36,7 @@ returns-clause-no_head g c lawful durable none =
     let durable_mid = c.in_ok-put_zeros.ensures.durable lawful in
     opens_in_turn (view c.args.device.now).state (view mid).state (view c.write.new.device).state (c.in_ok-put_zeros.ensures.no_head lawful durable none)
     (opens_none c.put_leaves_others.ensures r _ behind (view mid).state (view c.write.new.device).state durable_mid (c.in_ok-put_zeros.ensures.head lawful durable none)
-    (c.in_ok-write.ensures.crash_safe still (c.durable_is_settled.ensures mid r durable_mid)))
+    (c.in_ok-write.ensures.put.crash_safe still (c.durable_is_settled.ensures mid r durable_mid)))
 
 pub returns-clause-put : goal.returns-clause-put
 returns-clause-put g c lawful plan valid durable none =
@@ -55,8 +55,8 @@ returns-clause-put g c lawful plan valid durable none =
     let still = c.in_ok-put_zeros.ensures.device.lawful.0 lawful in
     let durable_mid = c.in_ok-put_zeros.ensures.durable lawful in
     let settled = c.durable_is_settled.ensures mid (slot slots 0) durable_mid in
-    let safe = subst (λ (z : Slots). CrashSafe (Puts (slot z 0) (slot_bytes z.k at.epoch at.last at.states)) (view mid).state (view new).state) is (c.in_ok-write.ensures.crash_safe still settled) in
-    let is_open = subst (λ (z : Slots). IsOpen (slot z 0) (slot_bytes z.k at.epoch at.last at.states) (view new).state) is (c.in_ok-write.ensures.open still settled) in
+    let safe = subst (λ (z : Slots). CrashSafe (Puts (slot z 0) (slot_bytes z.k at.epoch at.last at.states)) (view mid).state (view new).state) is (c.in_ok-write.ensures.put.crash_safe still settled) in
+    let is_open = subst (λ (z : Slots). IsOpen (slot z 0) (slot_bytes z.k at.epoch at.last at.states) (view new).state) is (c.in_ok-write.ensures.put.is_open still settled) in
     let also = c.in_ok-write.ensures.device.lawful.0 still in
     let now = laws.counts_now new (view mid).state.moment (view new).state.bytes also safe.later (laws.reads_image new also) in
     let put : Puts r p (view mid).state.bytes (view new).state.bytes = read_step (Puts r p) (view mid).state (view new).state durable_mid safe now in
@@ -69,7 +69,7 @@ returns-clause-put g c lawful plan valid durable none =
     ∙ cell_closed sizes at.epoch (suc at.epoch % sizes.n) (view mid).state.bytes (c.parts_are_apart.ensures.ends sizes at.epoch (suc at.epoch % sizes.n) (mod-lt (suc at.epoch) c.requires.cells)) zeros in
     let limit : sizes.k ≤ 1048576 = subst (λ (z : Slots). z.k ≤ 1048576) is c.slots_of-slots.ensures.limit in
     let room : sizes.k < 2 ^ 32 = omega (arith, limit) in
-    let fit : AreSlotStates (folds_of plan) sizes.k at.states = record { few = c.requires.few; room = room; lawful = valid; fits = c.in_ok-write.ensures.fits } in
+    let fit : AreSlotStates (folds_of plan) sizes.k at.states = record { few = c.requires.few; room = room; lawful = valid; fits = c.in_ok-write.ensures.fits.fits } in
     let last : at.last < 2 ^ 64 = omega arith in
     record {
       no_head = no_head_after others r p behind (view mid).state.bytes (view new).state.bytes put (c.in_ok-put_zeros.ensures.head lawful durable none);
@@ -91,7 +91,7 @@ returns-clause-head g c lawful durable none =
     let behind : Behind r = subst (λ (z : Slots). Behind (slot z 0)) (sym c.slots_of-slots.ensures.slots) (c.parts_are_apart.ensures.heads_slots c.args.shape 0) in
     let still = c.in_ok-put_zeros.ensures.device.lawful.0 lawful in
     let durable_mid = c.in_ok-put_zeros.ensures.durable lawful in
-    let safe = c.in_ok-write.ensures.crash_safe still (c.durable_is_settled.ensures mid r durable_mid) in
+    let safe = c.in_ok-write.ensures.put.crash_safe still (c.durable_is_settled.ensures mid r durable_mid) in
     let also = c.in_ok-write.ensures.device.lawful.0 still in
     let now = laws.counts_now new (view mid).state.moment (view new).state.bytes also safe.later (laws.reads_image new also) in
     no_head_after c.put_leaves_others.ensures r p behind (view mid).state.bytes (view new).state.bytes (read_step (Puts r p) (view mid).state (view new).state durable_mid safe now)
@@ -112,7 +112,7 @@ returns-clause-closed g c lawful k low high =
     let still = c.in_ok-put_zeros.ensures.device.lawful.0 lawful in
     let durable_mid = c.in_ok-put_zeros.ensures.durable lawful in
     let settled = c.durable_is_settled.ensures mid (slot slots 0) durable_mid in
-    let safe = subst (λ (z : Slots). CrashSafe (Puts (slot z 0) (slot_bytes z.k at.epoch at.last at.states)) (view mid).state (view new).state) is (c.in_ok-write.ensures.crash_safe still settled) in
+    let safe = subst (λ (z : Slots). CrashSafe (Puts (slot z 0) (slot_bytes z.k at.epoch at.last at.states)) (view mid).state (view new).state) is (c.in_ok-write.ensures.put.crash_safe still settled) in
     let also = c.in_ok-write.ensures.device.lawful.0 still in
     let now = laws.counts_now new (view mid).state.moment (view new).state.bytes also safe.later (laws.reads_image new also) in
     let put : Puts r p (view mid).state.bytes (view new).state.bytes = read_step (Puts r p) (view mid).state (view new).state durable_mid safe now in

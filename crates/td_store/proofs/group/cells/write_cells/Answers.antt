@@ -57,7 +57,7 @@ returns-then-before_end-count-clause-written g c lawful =
 
 pub write_run-requires-2-clause-run : goal.write_run-requires-2-clause-run
 write_run-requires-2-clause-run g c =
-    behind_the_end c.args.first c.args.journal.now.n c.cells_to_end.result c.args.count c.min-before_end.result c.requires.cells c.cells_to_end.ensures c.min-before_end.ensures c.if-before_end-count.false c.requires.few
+    behind_the_end c.args.first c.args.journal.now.n c.cells_to_end.result c.args.count c.min-before_end.result c.requires.ring.cells c.cells_to_end.ensures c.min-before_end.ensures c.if-before_end-count.false c.requires.few
 
 pub write_run-requires-2-clause-whole : goal.write_run-requires-2-clause-whole
 write_run-requires-2-clause-whole g c =

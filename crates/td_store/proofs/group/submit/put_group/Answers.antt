@@ -83,7 +83,7 @@ returns-in_err-uncover-clause-begun g c lawful plan h side s ring room fresh val
     subst (λ (k : Journal). CrashSafe (Puts (cell_of k e) (cell_bytes k.m e x.request x.batch)) (view mid).state (view new).state) ring
     (subst (λ (a : Region). CrashSafe (Puts a (cell_bytes j.m e x.request x.batch)) (view mid).state (view new).state) c.cell_of.ensures.region
     (c.steps_are_puts.ensures.open c.cell_of.result (cell_bytes j.m e x.request x.batch) mid new (c.in_err-uncover.ensures.crash_safe still (cell_bytes j.m e x.request x.batch) filled))) in
-    let small : j.m < 2 ^ 32 = omega (arith, c.requires.records) in
+    let small : j.m < 2 ^ 32 = omega (arith, c.requires.ring.records) in
     let one : x.request < 2 ^ 64 = omega arith in
     let ok : AreCellBatches (inputs_of plan) h.shape.m (x ∷ xs) =
     subst (λ (k : Journal). AreCellBatches (inputs_of plan) k.m (x ∷ xs)) ring
@@ -128,7 +128,7 @@ returns-clause-begun g c lawful plan h side s ring room fresh valid keeps t0 f l
     subst (λ (k : Journal). CrashSafe (Puts (cell_of k e) (cell_bytes k.m e x.request x.batch)) (view mid).state (view new).state) ring
     (subst (λ (a : Region). CrashSafe (Puts a (cell_bytes j.m e x.request x.batch)) (view mid).state (view new).state) c.cell_of.ensures.region
     (c.steps_are_puts.ensures.open c.cell_of.result (cell_bytes j.m e x.request x.batch) mid new (c.in_ok-uncover.ensures.crash_safe still (cell_bytes j.m e x.request x.batch) filled))) in
-    let small : j.m < 2 ^ 32 = omega (arith, c.requires.records) in
+    let small : j.m < 2 ^ 32 = omega (arith, c.requires.ring.records) in
     let one : x.request < 2 ^ 64 = omega arith in
     let ok : AreCellBatches (inputs_of plan) h.shape.m (x ∷ xs) =
     subst (λ (k : Journal). AreCellBatches (inputs_of plan) k.m (x ∷ xs)) ring
@@ -173,7 +173,7 @@ returns-clause-done g c lawful plan h side s ring room fresh valid keeps =
     subst (λ (k : Journal). CrashSafe (Puts (cell_of k e) (cell_bytes k.m e x.request x.batch)) (view mid).state (view new).state) ring
     (subst (λ (a : Region). CrashSafe (Puts a (cell_bytes j.m e x.request x.batch)) (view mid).state (view new).state) c.cell_of.ensures.region
     (c.steps_are_puts.ensures.open c.cell_of.result (cell_bytes j.m e x.request x.batch) mid new (c.in_ok-uncover.ensures.crash_safe still (cell_bytes j.m e x.request x.batch) filled))) in
-    let small : j.m < 2 ^ 32 = omega (arith, c.requires.records) in
+    let small : j.m < 2 ^ 32 = omega (arith, c.requires.ring.records) in
     let one : x.request < 2 ^ 64 = omega arith in
     let ok : AreCellBatches (inputs_of plan) h.shape.m (x ∷ xs) =
     subst (λ (k : Journal). AreCellBatches (inputs_of plan) k.m (x ∷ xs)) ring

@@ -25,8 +25,8 @@ returns-clause-kept g c lawful =
     let l2 = c.in_ok-write.ensures.device.lawful.0 l1 in
     let l3 = c.in_ok-put_first.ensures.device.lawful.0 l2 in
     let d1 : IsDurable (view wiped).state = c.in_ok-wipe.ensures.durable lawful in
-    let d2 : IsDurable (view slotted).state = c.in_ok-write.ensures.durable l1 in
-    let d3 : IsDurable (view new).state = c.in_ok-put_first.ensures.durable l2 in
+    let d2 : IsDurable (view slotted).state = c.in_ok-write.ensures.put.durable l1 in
+    let d3 : IsDurable (view new).state = c.in_ok-put_first.ensures.put.durable l2 in
     let slots : Slots = c.slots_of-slots.result in
     let settled_0 = c.durable_is_settled.ensures wiped (slot slots 0) d1 in
     let settled_a = c.durable_is_settled.ensures slotted head_a d2 in
@@ -34,12 +34,12 @@ returns-clause-kept g c lawful =
     let head = head_bytes 2 1 sizes (text_of plan) in
     let puts_0 : CrashSafe (Puts (slot (slots_of sizes) 0) payload) (view wiped).state (view slotted).state =
     subst (λ (x : StateList). CrashSafe (Puts (slot (slots_of sizes) 0) (slot_bytes sizes.k 0 0 x)) (view wiped).state (view slotted).state) c.new-states.ensures
-    (subst (λ (z : Slots). CrashSafe (Puts (slot z 0) (slot_bytes z.k 0 0 c.new-states.result)) (view wiped).state (view slotted).state) c.slots_of-slots.ensures.slots (c.in_ok-write.ensures.crash_safe l1 settled_0)) in
+    (subst (λ (z : Slots). CrashSafe (Puts (slot z 0) (slot_bytes z.k 0 0 c.new-states.result)) (view wiped).state (view slotted).state) c.slots_of-slots.ensures.slots (c.in_ok-write.ensures.put.crash_safe l1 settled_0)) in
     let open_0 : IsOpen (slot (slots_of sizes) 0) payload (view slotted).state =
     subst (λ (x : StateList). IsOpen (slot (slots_of sizes) 0) (slot_bytes sizes.k 0 0 x) (view slotted).state) c.new-states.ensures
-    (subst (λ (z : Slots). IsOpen (slot z 0) (slot_bytes z.k 0 0 c.new-states.result) (view slotted).state) c.slots_of-slots.ensures.slots (c.in_ok-write.ensures.open l1 settled_0)) in
-    let puts_a : CrashSafe (Puts head_a head) (view slotted).state (view new).state = c.in_ok-put_first.ensures.crash_safe l2 settled_a in
-    let open_a : IsOpen head_a head (view new).state = c.in_ok-put_first.ensures.open l2 settled_a in
+    (subst (λ (z : Slots). IsOpen (slot z 0) (slot_bytes z.k 0 0 c.new-states.result) (view slotted).state) c.slots_of-slots.ensures.slots (c.in_ok-write.ensures.put.is_open l1 settled_0)) in
+    let puts_a : CrashSafe (Puts head_a head) (view slotted).state (view new).state = c.in_ok-put_first.ensures.put.crash_safe l2 settled_a in
+    let open_a : IsOpen head_a head (view new).state = c.in_ok-put_first.ensures.put.is_open l2 settled_a in
     let read_0 = laws.reads_image slotted l2 in
     let read_a = laws.reads_image new l3 in
     let put_0 : Puts (slot (slots_of sizes) 0) payload (view wiped).state.bytes (view slotted).state.bytes =

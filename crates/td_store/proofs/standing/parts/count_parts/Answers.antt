@@ -37,8 +37,8 @@ returns-clause-told g c =
     let read = c.in_ok-submitted.ensures in
     let w = read.told.0 in
     let many = as_many w c.in_ok-submitted.submitted.items read.told.1 in
-    let few : length w ≤ b.journal.n = omega (arith, many, read.few_told) in
-    let small : b.checkpoint.epoch + length w < 2 ^ 63 = omega (arith, many, read.below) in (
+    let few : length w ≤ b.journal.n = omega (arith, many, read.fits.few) in
+    let small : b.checkpoint.epoch + length w < 2 ^ 63 = omega (arith, many, read.fits.below) in (
       w,
       read.told.1,
       (

@@ -33,7 +33,7 @@ pub returns-clause-may_stand : goal.returns-clause-may_stand
 returns-clause-may_stand g c =
     let w = c.in_ok-submitted.submitted.items in
     let read = c.in_ok-submitted.ensures in
-    c.in_ok-before.ensures.may_stand w (subst (λ (i : List ℕ). All (λ x. is_batch i x.batch ≡ true) w) c.deref.ensures.value read.batches) read.few_told read.below
+    c.in_ok-before.ensures.may_stand w (subst (λ (i : List ℕ). All (λ x. is_batch i x.batch ≡ true) w) c.deref.ensures.value read.may_be.batches) read.may_be.few read.may_be.below
 
 pub returns-clause-told : goal.returns-clause-told
 returns-clause-told g c =
