@@ -49,20 +49,17 @@ EXAMPLE = "a worked example"
 SPACE, CODE, PIECE, GROUP, POWER = "the code of a blank", "the code of a closure", "the bytes of a piece that is read or written", "the weight of a hall's cut", "a power of two, or a shift"
 PLACES = {
     LIMIT: [
-        "td_store/src/copy/epochs.rt: 65536, 4",
-        "td_store/src/group/cells.rt: 65536, 5",
-        "td_store/src/group/free.rt: 65536, 3",
-        "td_store/src/group/submit.rt: 65536, 5",
-        "td_journal/src/journal.rt: 65536, 11",
+        "td_store/src/group/cells.rt: 65536, 1",
+        "td_journal/specs/Steps.antt: 65536, 2",
+        "td_journal/src/journal.rt: 65536, 1",
         "td_journal/src/parse.rt: 65536, 1",
         "td_journal/src/payload.rt: 65536, 1",
         "td_slots/src/payload.rt: 1048576, 1",
-        "td_slots/src/slots.rt: 1048576, 4",
+        "td_slots/specs/Steps.antt: 1048576, 1",
+        "td_slots/src/slots.rt: 1048576, 2",
         "td_store/src/standing/layout.rt: 1048576, 1",
         "td_store/src/standing/layout.rt: 65536, 2",
         "td_store/src/standing/parts.rt: 65536, 2",
-        "td_store/src/standing/steps.rt: 1048576, 1",
-        "td_store/src/standing/steps.rt: 65536, 1",
     ],
     WHERE: [
         "td_store/src/copy/epochs.rt: 8258, 3",

@@ -5,7 +5,7 @@ use Rattle.std.specs.Fmt.{decimal, signed_decimal}
 use Rattle.std.specs.Int.{w64}
 use Rattle.td_stamp.specs.declared.values.Entry.{Entry}
 use Rattle.td_plan.specs.Lines.{Line as PlanLine}
-use Rattle.td_disk.specs.Disk.{DiskState}
+use Rattle.td_disk.specs.Disk.{DiskView, DiskState}
 use Rattle.td_gate.specs.Reading.{Each}
 use Rattle.td_journal.specs.declared.submitted.Submitted.{Submitted}
 use Rattle.td_head.specs.declared.head.Head.{Head}
@@ -77,6 +77,10 @@ pub record Dumps (plan : List PlanLine) (before after : Option (List ℕ)) (is_l
   pub keeps : is_lawful → Keeps plan head side standing state
   pub new : is_lawful → new_after standing.last standing.submitted ≡ standing.submitted
 
+-- the same, of a disk before a call and after it
+abbrev pub DumpsDisk : {D : Type 0} → (D → DiskView) → List PlanLine → D → D → Option (List ℕ) → Option (List ℕ) → Type 0
+DumpsDisk view plan old new before after = Dumps plan before after (view old).lawful (view new).state
+
 -- AN INPUT BRINGS A DISK ON to a history, of which it stands for the first so many
 abbrev pub BringsOn : List PlanLine → List ℕ → List Submitted → ℕ → Type 0
 BringsOn plan input history n = (refuse : Bool) → take n history
@@ -94,6 +98,10 @@ pub record DumpsPlaced (plan : List PlanLine) (before after : Option (List ℕ))
   pub brings : is_lawful → (run : StateList → List (List Entry) → StateList) (history : List Submitted) → Stands run standing history
       → (n : ℕ) → standing.epoch ≤ n → n ≤ length history → BringsOn plan (placed_dump head.shape standing) history n
   pub behind : (told last : ℕ) → told < standing.epoch → (placed false told last (script_of true false false false None plan (placed_dump head.shape standing))).orders ≡ []
+
+-- the same, of a disk before a call and after it
+abbrev pub DumpsDiskPlaced : {D : Type 0} → (D → DiskView) → List PlanLine → D → D → Option (List ℕ) → Option (List ℕ) → Type 0
+DumpsDiskPlaced view plan old new before after = DumpsPlaced plan before after (view old).lawful (view new).state
 
 -- of a text that was to be written some was, and this is left
 pub record WritesFront (before after : Option (List ℕ)) (text left : List ℕ) : Type 0 where

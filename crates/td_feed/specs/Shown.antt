@@ -1,17 +1,22 @@
 -- What a disk tells, in lines.
-use Rattle.std.specs.Prelude.{◌≡◌, ℕ, ◌+◌, zero, suc, List, [], ◌∷◌, ◌++◌, codes, flat_map, length, Option}
+use Rattle.std.specs.Prelude.{◌≡◌, ◌≢◌, ◌⊎◌, ℕ, ◌+◌, zero, suc, List, [], ◌∷◌, ◌++◌, codes, flat_map, length, Option, Ok}
 use Rattle.std.specs.Io.KnownBytes.{Appends}
 use Rattle.std.specs.Fmt.{decimal, signed_decimal}
 use Rattle.td_stamp.specs.declared.values.State.{State}
 use Rattle.td_stamp.specs.States.{StateList}
+use Rattle.td_plan.specs.Lines.{Line}
+use Rattle.td_disk.specs.Disk.{DiskView, IsDurable, Rises}
 use Rattle.td_slots.specs.declared.slots.Checkpoint.{Checkpoint}
 use Rattle.td_journal.specs.declared.submitted.Submitted.{Submitted}
 use Rattle.td_journal.specs.declared.submitted.Counts.{Counts}
 use Rattle.td_journal.specs.Counts.{greatest_counted}
 use Rattle.td_store.specs.standing.Standing.{Standing, last_epoch, last_request}
+use Rattle.td_store.specs.standing.Told.{Told}
+use Rattle.td_store.specs.standing.Read.{Refused}
 use Rattle.td_store.specs.declared.standing.error.KeeperError.{KeeperError}
+use Rattle.td_store.specs.declared.standing.error.KeeperError.TheVariants.{Device}
 use Rattle.td_console.specs.declared.faults.Fault.{Fault}
-use Rattle.td_console.specs.declared.faults.Fault.TheVariants.{Keeper}
+use Rattle.td_console.specs.declared.faults.Fault.TheVariants.{Keeper, Memory, Output}
 
 -- `kept C` and `told T`
 abbrev pub kept_line : ℕ → List ℕ
@@ -70,3 +75,26 @@ ShowsTold before after s = Appends before after (shown s)
 -- a fault is a refusal of a keeper's, of which this holds
 abbrev pub IsRefusedAs : Fault → (KeeperError → Type 0) → Type 0
 IsRefusedAs f Holds = (e : KeeperError) × (f ≡ Keeper e) × Holds e
+
+-- WHY WHAT A DISK TELLS IS NOT WRITTEN OUT: the writer failed; memory ran out; a call of the disk failed, and was counted; or a lawful disk tells this
+-- refusal after a sync
+abbrev pub RefusesToShow : {D : Type 0} → (D → DiskView) → List Line → Fault → D → D → Type 0
+RefusesToShow view plan f old new = (f ≡ Output) ⊎ ((f ≡ Memory) ⊎ (((f ≡ Keeper Device) × Rises (view old).failures (view new).failures)
+    ⊎ IsRefusedAs f (λ e. (view old).lawful → IsDurable (view new).state × Told plan (view new).state.bytes (Refused e))))
+
+-- the writer did not fail
+abbrev pub IsNotOutput : Fault → Type 0
+IsNotOutput f = f ≢ Output
+
+-- a writer has room for any text
+abbrev pub HasAllRoom : (ℕ → Type 0) → Type 0
+HasAllRoom has = (n : ℕ) → has n
+
+-- writers have room for any text at any time
+abbrev pub AlwaysHasRoom : {W : Type 0} → (W → ℕ → Type 0) → Type 0
+AlwaysHasRoom {W} has = (w : W) (n : ℕ) → has w n
+
+-- a lawful disk tells what was written out, as it reads after a sync
+abbrev pub ShowsDisk : {D : Type 0} → (D → DiskView) → List Line → D → D → Option (List ℕ) → Option (List ℕ) → Type 0
+ShowsDisk view plan old new before after = (s : Standing) × ShowsTold before after s
+    × ((view old).lawful → IsDurable (view new).state × Told plan (view new).state.bytes (Ok s))

@@ -3,17 +3,15 @@
 //! The comment before the epochs is for a reader: a feed passes over it. It does not list the states, which no line of a feed
 //! could take. Memory is taken before the first line is written, and numbers are printed by `itoa`, which takes none. So want of
 //! memory is said with nothing written, and no part of a journal goes to a feed.
-ghost use Rattle.std.specs.Prelude.{◌≡◌, ◌≢◌, ◌⊎◌, ◌↔◌, ◌++◌, ◌+◌, ◌<◌, ◌≤◌, ◌^◌, ℕ, [], ◌∷◌, codes, flat_map, length, string_bytes, string_len, string_capacity, IfOk, IfErr, OnOk};
+ghost use Rattle.std.specs.Prelude.{◌≡◌, ◌↔◌, ◌++◌, ◌+◌, ◌<◌, ◌≤◌, ◌^◌, ℕ, [], ◌∷◌, flat_map, length, string_bytes, string_len, string_capacity, IfOk, IfErr, OnOk};
 ghost use Rattle.std.specs.Result.{IsOk};
-ghost use Rattle.td_disk.specs.Disk.{IsDurable, Rises};
-ghost use Rattle.td_gate.specs.CrashSafe.{CrashSafe, Unchanged};
 ghost use Rattle.td_gate.specs.Reading.{Each};
 ghost use Rattle.td_store.specs.standing.Standing.{standing_from};
-ghost use Rattle.td_store.specs.standing.Read.{standing_of, Refused};
-ghost use Rattle.td_store.specs.standing.Told.{Told};
+ghost use Rattle.td_store.specs.standing.Read.{standing_of};
 ghost use Rattle.td_store.specs.declared.standing.error.KeeperError.TheVariants.{Device};
-ghost use Rattle.td_feed.specs.Shown.{IsRefusedAs};
-ghost use Rattle.td_feed.specs.Dumped.{standing_words, room_words, summary_line, request_line, record_line, epoch_text, Dumps, WritesFront, FitsLine, FitsLines};
+ghost use Rattle.td_gate.specs.Steps.{SameUnless, WritesNothing};
+ghost use Rattle.td_feed.specs.Shown.{AlwaysHasRoom, IsNotOutput, RefusesToShow};
+ghost use Rattle.td_feed.specs.Dumped.{standing_words, room_words, summary_line, request_line, record_line, epoch_text, DumpsDisk, WritesFront, FitsLine, FitsLines};
 
 use crate::laws::dumps_are_fed;
 use itoa::Buffer;
@@ -51,14 +49,12 @@ pub fn dump<D: Disk, W: Sink>(
 ) -> Result<(), Fault>
     ensures size { (D.view disk.new).capacity ≡ (D.view disk.old).capacity }
     ensures lawful { (D.view disk.old).lawful ↔ (D.view disk.new).lawful }
-    ensures dumped { OnOk result (Dumps plan.now (W.contents writer.old) (W.contents writer.new) (D.view disk.old).lawful (D.view disk.new).state) }
-    ensures refused { IfErr result (λ f. (f ≡ Fault.Output) ⊎ ((f ≡ Fault.Memory)
-        ⊎ (((f ≡ Fault.Keeper Device) × Rises (D.view disk.old).failures (D.view disk.new).failures)
-        ⊎ IsRefusedAs f (λ e. (D.view disk.old).lawful → IsDurable (D.view disk.new).state × Told plan.now (D.view disk.new).state.bytes (Refused e))))) }
+    ensures dumped { OnOk result (DumpsDisk D.view plan.now disk.old disk.new (W.contents writer.old) (W.contents writer.new)) }
+    ensures refused { IfErr result (λ f. RefusesToShow D.view plan.now f disk.old disk.new) }
     // Writers that have room for any text at any time do not fail.
-    ensures room { ((w : W) (n : ℕ) → W.HasRoom w n) → IfErr result (λ f. f ≢ Fault.Output) }
-    ensures nothing { IfErr result (λ f. (f ≡ Fault.Output) ⊎ (writer.new ≡ writer.old)) }
-    ensures crash_safe { (D.view disk.old).lawful → CrashSafe Unchanged (D.view disk.old).state (D.view disk.new).state }
+    ensures room { AlwaysHasRoom W.HasRoom → IfErr result IsNotOutput }
+    ensures nothing { IfErr result (λ f. SameUnless Fault.Output f writer.old writer.new) }
+    ensures crash_safe { WritesNothing D.view disk.old disk.new }
 {
     dumps_are_fed();
     let _vertices = plan.vertices();

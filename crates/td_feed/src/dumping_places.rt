@@ -2,16 +2,12 @@
 //!
 //! A disk that is brought up to date by them may have some of the epochs already, with or without request numbers. It may also lack some
 //! before them, where a cut let these go. A stream with places finds both by the line `at E` before an epoch.
-ghost use Rattle.std.specs.Prelude.{◌≡◌, ◌≢◌, ◌⊎◌, ◌↔◌, ◌++◌, ◌+◌, ◌<◌, ◌≤◌, ◌^◌, ℕ, length, string_bytes, string_len, string_capacity, IfErr, OnOk};
+ghost use Rattle.std.specs.Prelude.{◌≡◌, ◌↔◌, ◌++◌, ◌+◌, ◌<◌, ◌≤◌, ◌^◌, ℕ, length, string_bytes, string_len, string_capacity, IfErr, OnOk};
 ghost use Rattle.std.specs.Result.{IsOk};
-ghost use Rattle.td_disk.specs.Disk.{IsDurable, Rises};
-ghost use Rattle.td_gate.specs.CrashSafe.{CrashSafe, Unchanged};
 ghost use Rattle.td_gate.specs.Reading.{Each};
-ghost use Rattle.td_store.specs.standing.Read.{Refused};
-ghost use Rattle.td_store.specs.standing.Told.{Told};
-ghost use Rattle.td_store.specs.declared.standing.error.KeeperError.TheVariants.{Device};
-ghost use Rattle.td_feed.specs.Shown.{IsRefusedAs};
-ghost use Rattle.td_feed.specs.Dumped.{place_line, epoch_text, placed_text, DumpsPlaced, WritesFront, FitsLines};
+ghost use Rattle.td_gate.specs.Steps.{SameUnless, WritesNothing};
+ghost use Rattle.td_feed.specs.Shown.{AlwaysHasRoom, IsNotOutput, RefusesToShow};
+ghost use Rattle.td_feed.specs.Dumped.{place_line, epoch_text, placed_text, DumpsDiskPlaced, WritesFront, FitsLines};
 
 use crate::dumping::{LINE, PIECE, make_room, push, summary_of, write_epoch};
 use crate::laws::placed_dumps_bring_on;
@@ -32,14 +28,12 @@ pub fn dump_placed<D: Disk, W: Sink>(
 ) -> Result<(), Fault>
     ensures size { (D.view disk.new).capacity ≡ (D.view disk.old).capacity }
     ensures lawful { (D.view disk.old).lawful ↔ (D.view disk.new).lawful }
-    ensures dumped { OnOk result (DumpsPlaced plan.now (W.contents writer.old) (W.contents writer.new) (D.view disk.old).lawful (D.view disk.new).state) }
-    ensures refused { IfErr result (λ f. (f ≡ Fault.Output) ⊎ ((f ≡ Fault.Memory)
-        ⊎ (((f ≡ Fault.Keeper Device) × Rises (D.view disk.old).failures (D.view disk.new).failures)
-        ⊎ IsRefusedAs f (λ e. (D.view disk.old).lawful → IsDurable (D.view disk.new).state × Told plan.now (D.view disk.new).state.bytes (Refused e))))) }
+    ensures dumped { OnOk result (DumpsDiskPlaced D.view plan.now disk.old disk.new (W.contents writer.old) (W.contents writer.new)) }
+    ensures refused { IfErr result (λ f. RefusesToShow D.view plan.now f disk.old disk.new) }
     // Writers that have room for any text at any time do not fail.
-    ensures room { ((w : W) (n : ℕ) → W.HasRoom w n) → IfErr result (λ f. f ≢ Fault.Output) }
-    ensures nothing { IfErr result (λ f. (f ≡ Fault.Output) ⊎ (writer.new ≡ writer.old)) }
-    ensures crash_safe { (D.view disk.old).lawful → CrashSafe Unchanged (D.view disk.old).state (D.view disk.new).state }
+    ensures room { AlwaysHasRoom W.HasRoom → IfErr result IsNotOutput }
+    ensures nothing { IfErr result (λ f. SameUnless Fault.Output f writer.old writer.new) }
+    ensures crash_safe { WritesNothing D.view disk.old disk.new }
 {
     placed_dumps_bring_on();
     let _vertices = plan.vertices();

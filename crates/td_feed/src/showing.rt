@@ -1,16 +1,12 @@
 //! What a disk tells, in lines.
 //!
 //! It needs no keeper, hence no law and no closures. It begins with a sync, as recovery does, which needs no right to write the file.
-ghost use Rattle.std.specs.Prelude.{◌≡◌, ◌≢◌, ◌⊎◌, ◌↔◌, ◌++◌, ◌+◌, ◌<◌, ◌^◌, ℕ, Ok, length, string_bytes, IfOk, IfErr, OnOk};
-ghost use Rattle.td_disk.specs.Disk.{IsDurable, Rises};
-ghost use Rattle.td_gate.specs.CrashSafe.{CrashSafe, Unchanged};
-ghost use Rattle.td_store.specs.standing.Standing.{Standing};
-ghost use Rattle.td_store.specs.standing.Read.{Refused};
-ghost use Rattle.td_store.specs.standing.Told.{Told};
+ghost use Rattle.std.specs.Prelude.{◌≡◌, ◌++◌, ◌+◌, ◌<◌, ◌^◌, Ok, length, string_bytes, IfOk, IfErr, OnOk};
 ghost use Rattle.td_store.specs.declared.standing.error.KeeperError.TheVariants.{Device};
 ghost use Rattle.td_feed.specs.Shown.{counted_lines, counted_head, last_line, state_line, state_lines, count_line, count_lines};
 ghost use Rattle.td_feed.specs.Session.{KeepsDisk};
-ghost use Rattle.td_feed.specs.Shown.{ShowsTold, IsRefusedAs};
+ghost use Rattle.td_gate.specs.Steps.{SameUnless, WritesNothing};
+ghost use Rattle.td_feed.specs.Shown.{HasAllRoom, IsNotOutput, RefusesToShow, ShowsDisk};
 
 use itoa::Buffer;
 use std::alloc::Global;
@@ -37,14 +33,11 @@ pub fn show<D: Disk, W: Sink>(
     writer: &mut W,
 ) -> Result<(), Fault>
     ensures disk { KeepsDisk D.view result disk.old disk.new }
-    ensures shown { OnOk result ((s : Standing) × ShowsTold (W.contents writer.old) (W.contents writer.new) s
-        × ((D.view disk.old).lawful → IsDurable (D.view disk.new).state × Told plan.now (D.view disk.new).state.bytes (Ok s))) }
-    ensures refused { IfErr result (λ f. (f ≡ Fault.Output) ⊎ ((f ≡ Fault.Memory)
-        ⊎ (((f ≡ Fault.Keeper Device) × Rises (D.view disk.old).failures (D.view disk.new).failures)
-        ⊎ IsRefusedAs f (λ e. (D.view disk.old).lawful → IsDurable (D.view disk.new).state × Told plan.now (D.view disk.new).state.bytes (Refused e))))) }
-    ensures room { ((n : ℕ) → W.HasRoom writer.old n) → IfErr result (λ f. f ≢ Fault.Output) }
-    ensures nothing { IfErr result (λ f. (f ≡ Fault.Output) ⊎ (writer.new ≡ writer.old)) }
-    ensures crash_safe { (D.view disk.old).lawful → CrashSafe Unchanged (D.view disk.old).state (D.view disk.new).state }
+    ensures shown { OnOk result (ShowsDisk D.view plan.now disk.old disk.new (W.contents writer.old) (W.contents writer.new)) }
+    ensures refused { IfErr result (λ f. RefusesToShow D.view plan.now f disk.old disk.new) }
+    ensures room { HasAllRoom (W.HasRoom writer.old) → IfErr result IsNotOutput }
+    ensures nothing { IfErr result (λ f. SameUnless Fault.Output f writer.old writer.new) }
+    ensures crash_safe { WritesNothing D.view disk.old disk.new }
 {
     laws::told_in_parts();
     let counted = count_device(alloc, disk, plan)?;

@@ -1,9 +1,9 @@
 //! Raising a disk to the version of the format that has request numbers.
-ghost use Rattle.std.specs.Prelude.{◌≡◌, ◌⊎◌, ◌↔◌, ◌≤◌, List, ℕ, IfErr, OnOk, IsErrOf};
+ghost use Rattle.std.specs.Prelude.{List, IfErr, OnOk};
 ghost use Rattle.std.specs.Io.KnownBytes.{Appends};
-ghost use Rattle.td_disk.specs.Disk.{Rises};
 ghost use Rattle.td_journal.specs.declared.submitted.Submitted.{Submitted as AnySubmitted};
 ghost use Rattle.td_store.specs.declared.standing.error.KeeperError.TheVariants.{Device};
+ghost use Rattle.td_gate.specs.Steps.{SameUnless};
 ghost use Rattle.td_feed.specs.Fed.{EachTellsHistory};
 ghost use Rattle.td_feed.specs.Session.{KeepsDisk};
 ghost use Rattle.td_feed.specs.Upgraded.{version_line, IsNumbered};
@@ -38,7 +38,7 @@ pub fn upgrade<D: Disk, L: Law, W: Sink>(
     // After Ok it is of version 2, whatever a crash leaves of it, and that is written.
     ensures raised { OnOk result.1 ((D.view disk).lawful → IsNumbered plan.now (D.view result.0).state) }
     ensures said { OnOk result.1 (Appends (W.contents writer.old) (W.contents writer.new) version_line) }
-    ensures unsaid { IfErr result.1 (λ f. (f ≡ Fault.Output) ⊎ (writer.new ≡ writer.old)) }
+    ensures unsaid { IfErr result.1 (λ f. SameUnless Fault.Output f writer.old writer.new) }
 {
     laws::told_in_parts();
     let mut keeper = match Keeper::<D, L>::recover(alloc, disk, plan) {

@@ -1,6 +1,7 @@
 -- What a call of a keeper comes to: what a crash leaves of the disk, and its refusals.
 use Rattle.std.specs.Prelude.{◌≡◌, ◌⊎◌, ℕ, ◌+◌, ◌≤◌, true, false, List, [], Option, Some, None, Result, Ok, Err}
 use Rattle.td_stamp.specs.declared.values.Entry.{Entry}
+use Rattle.td_plan.specs.Lines.{Line}
 use Rattle.td_calls.specs.Answers.{Answers}
 use Rattle.td_disk.specs.Disk.{DiskView, DiskState}
 use Rattle.td_gate.specs.CrashSafe.{CrashSafe, Unchanged}
@@ -8,11 +9,15 @@ use Rattle.td_journal.specs.declared.submitted.Submitted.{Submitted}
 use Rattle.td_store.specs.declared.standing.error.KeeperError.{KeeperError}
 use Rattle.td_store.specs.declared.standing.error.KeeperError.TheVariants.{Memory, Device, TooManyKeys}
 use Rattle.td_store.specs.standing.Standing.{last_epoch}
-use Rattle.td_store.specs.standing.Advanced.{SinceAdvance, AdvancesSince}
+use Rattle.td_store.specs.standing.Advanced.{SinceAdvance, AdvancesSince, HeldWhere}
+use Rattle.td_store.specs.standing.Told.{Told}
+use Rattle.td_store.specs.standing.Tells.{Keeps}
+use Rattle.td_store.specs.standing.Read.{Stood}
 use Rattle.td_keeper.specs.declared.receipt.Receipt.{Receipt}
 use Rattle.td_keeper.specs.Keeping.{Keeping, KeepsSince, FreeAreShut, with_batch, with_group, with_checkpoint}
 use Rattle.td_keeper.specs.Refused.{submit_refusal, submit_as_refusal, group_refusal, write_refusal, close_refusal}
 use Rattle.td_keeper.specs.Received.{IsReceived}
+use Rattle.td_keeper.specs.Grouped.{AllOrNone}
 
 -- an answer without what it hands back
 abbrev pub outcome : {T E B : Type 0} → Result T (E × B) → Result T E
@@ -92,3 +97,44 @@ pub record IsClosed {D : Type 0} (view : D → DiskView) (most : ℕ) (old new :
   pub accepted : close_refusal old ≡ None
   pub same : new ≡ record old { device = new.device }
   pub closed : (view old.device).lawful → FreeAreShut old most (view new.device).state.bytes
+
+module _ {D : Type 0} (view : D → DiskView) where
+  -- what a crash leaves of a lawful disk, of the keeper before a call that submits these and after it
+  abbrev pub LeavesAtCrash : Answers → List Submitted → Keeping D → Keeping D → Type 0
+  LeavesAtCrash answers x old new = (view old.device).lawful → CrashLeaves answers x old (view old.device).state (view new.device).state
+
+  -- a lawful disk holds what its keeper stands for
+  abbrev pub HoldsStanding : Answers → Keeping D → Type 0
+  HoldsStanding answers k = (view k.device).lawful → HeldWhere k.broken answers k.plan k.head k.side k.standing (view k.device).state
+
+  -- the keeper of a lawful disk stands for what that tells then
+  abbrev pub TellsStanding : List Line → D → Keeping D → Type 0
+  TellsStanding plan disk k = (view disk).lawful → Told plan (view k.device).state.bytes (Stood k.standing)
+
+  -- and for what that keeps, whatever a crash leaves
+  abbrev pub KeepsStanding : List Line → D → Keeping D → Type 0
+  KeepsStanding plan disk k = (view disk).lawful → Keeps plan k.head k.side k.standing (view k.device).state
+
+  -- in each image since the start of a call the disk of a keeper that is not broken tells what that stands for
+  abbrev pub TellsAllAlong : Keeping D → Keeping D → Type 0
+  TellsAllAlong old new = (view old.device).lawful → old.broken ≡ false
+      → (c : List ℕ) → (view new.device).state.since (view old.device).state.moment c → Told old.plan c (Stood old.standing)
+
+  -- each image since an earlier moment was one by the start, or the disk tells it there
+  abbrev pub TellsFurther : Answers → Keeping D → Keeping D → Type 0
+  TellsFurther answers old new = (view old.device).lawful → old.broken ≡ false
+      → AdvancesSince answers old.plan old.standing [] (last_epoch old.standing) (view old.device).state (view new.device).state
+
+  -- what a crash may leave after the call is among what it may leave since the start
+  abbrev pub ComesLater : Keeping D → Keeping D → Type 0
+  ComesLater old new = (view old.device).lawful → old.broken ≡ false → (view old.device).state.moment ≤ (view new.device).state.moment
+
+  -- in each image since the start the disk tells all of a group behind what it told, or none of it
+  abbrev pub LeavesAllOrNone : List Submitted → Keeping D → Keeping D → Type 0
+  LeavesAllOrNone group old new = (view old.device).lawful → old.broken ≡ false
+      → AllOrNone old.plan old.standing group (view old.device).state.moment (view new.device).state
+
+  -- where so many of the free cells that come next are closed, nothing is written
+  abbrev pub LeavesShutAlone : ℕ → Keeping D → Keeping D → Type 0
+  LeavesShutAlone most old new = (view old.device).lawful → FreeAreShut old most (view old.device).state.bytes
+      → CrashSafe Unchanged (view old.device).state (view new.device).state

@@ -1,10 +1,8 @@
 //! Closing the cells that no epoch uses.
 ghost use Rattle.std.specs.Prelude.{[], true, IfErr, OnOk};
-ghost use Rattle.td_gate.specs.CrashSafe.{CrashSafe, Unchanged};
-ghost use Rattle.td_keeper.specs.Keeping.{FreeAreShut};
 ghost use Rattle.td_store.specs.declared.standing.error.KeeperError.TheVariants.{Device};
 ghost use Rattle.td_disk.specs.Calls.{KeepsDevice};
-ghost use Rattle.td_keeper.specs.Calls.{IsClosed, IsUnclosed, CrashLeaves};
+ghost use Rattle.td_keeper.specs.Calls.{IsClosed, IsUnclosed, LeavesAtCrash, LeavesShutAlone};
 
 use crate::keeper::Keeper;
 use td_calls::Law;
@@ -24,11 +22,10 @@ impl<D: Disk, L: Law> Keeper<D, L> {
         ensures refused { IfErr result (λ e. IsUnclosed e self.old self.new) }
 
         // Where each of them is closed, or there is none, nothing is written.
-        ensures idle { (D.view self.old.device).lawful → FreeAreShut self.old most (D.view self.old.device).state.bytes
-            → CrashSafe Unchanged (D.view self.old.device).state (D.view self.new.device).state }
+        ensures idle { LeavesShutAlone D.view most self.old self.new }
 
         // At every moment of the call a crash leaves what the disk stood for.
-        ensures crash { (D.view self.old.device).lawful → CrashLeaves L.answers [] self.old (D.view self.old.device).state (D.view self.new.device).state }
+        ensures crash { LeavesAtCrash D.view L.answers [] self.old self.new }
         ensures device { KeepsDevice D.view Device result self.old.device self.new.device }
     {
         laws::told_in_parts();

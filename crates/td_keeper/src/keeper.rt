@@ -1,16 +1,16 @@
 //! A keeper of epochs on a disk.
-ghost use Rattle.std.specs.Prelude.{◌≡◌, ◌⊎◌, ◌≤◌, IfOk, IfErr};
-ghost use Rattle.td_disk.specs.Disk.{IsDurable};
-ghost use Rattle.td_gate.specs.CrashSafe.{CrashSafe, Unchanged};
+ghost use Rattle.std.specs.Prelude.{◌≡◌, ◌≤◌, IfOk, IfErr};
 ghost use Rattle.td_head.specs.Layout.{size_of};
 ghost use Rattle.td_store.specs.standing.Standing.{batches_of, nothing_told};
-ghost use Rattle.td_store.specs.standing.Told.{Told};
-ghost use Rattle.td_store.specs.standing.Tells.{Keeps, first_head};
-ghost use Rattle.td_store.specs.standing.Read.{MayStand, standing_of, Stood, Refused};
+ghost use Rattle.td_store.specs.standing.Tells.{first_head};
+ghost use Rattle.td_store.specs.standing.Read.{MayStand, standing_of, SyncedRefuses};
 ghost use Rattle.td_store.specs.standing.Advanced.{HeldWhere};
 ghost use Rattle.td_keeper.specs.Keeping.{Keeping, IsFreshlyOpened};
 ghost use Rattle.td_disk.specs.Calls.{KeepsDevice};
-ghost use Rattle.td_keeper.specs.Calls.{outcome, disk_in};
+ghost use Rattle.td_keeper.specs.Calls.{HoldsStanding, KeepsStanding, TellsStanding, outcome, disk_in};
+ghost use Rattle.td_gate.specs.Steps.{WritesNothing};
+ghost use Rattle.td_store.specs.standing.Refusals.{IsMemoryOrDevice};
+ghost use Rattle.td_store.specs.standing.Steps.{KeepsNothing};
 ghost use Rattle.td_store.specs.declared.standing.error.KeeperError.TheVariants.{Device};
 
 use crate::laws::each_is_kept;
@@ -93,9 +93,8 @@ impl<D: Disk, L: Law> Keeper<D, L> {
         ensures head { IfOk result (λ k. (k.head ≡ first_head shape) × (k.side ≡ 0)) }
         ensures standing { IfOk result (λ k. k.standing ≡ nothing_told) }
         ensures fresh { IfOk result IsFreshlyOpened }
-        ensures kept { IfOk result (λ k. (D.view disk).lawful
-            → Keeps plan.now (first_head shape) 0 nothing_told (D.view k.device).state) }
-        ensures refusals { IfErr result (λ e. (e.0 ≡ KeeperError.Memory) ⊎ (e.0 ≡ KeeperError.Device)) }
+        ensures kept { IfOk result (λ k. KeepsNothing D.view plan.now shape disk k.device) }
+        ensures refusals { IfErr result (λ e. IsMemoryOrDevice e.0) }
     {
         let mut device = disk;
         match format_device(alloc, &mut device, plan, shape) {
@@ -129,17 +128,14 @@ impl<D: Disk, L: Law> Keeper<D, L> {
     pub fn recover(alloc: Global, disk: D, plan: &Plan) -> Result<Keeper<D, L>, (KeeperError, D)>
         ensures plan { IfOk result (λ k. k.plan ≡ plan.now) }
         ensures fresh { IfOk result IsFreshlyOpened }
-        ensures told { IfOk result (λ k. (D.view disk).lawful → Told plan.now (D.view k.device).state.bytes (Stood k.standing)) }
-        ensures kept { IfOk result (λ k. (D.view disk).lawful
-            → Keeps plan.now k.head k.side k.standing (D.view k.device).state) }
+        ensures told { IfOk result (λ k. TellsStanding D.view plan.now disk k) }
+        ensures kept { IfOk result (λ k. KeepsStanding D.view plan.now disk k) }
 
         // A refusal but `Memory` and `Device` is told by what is read after the sync, which is all that a crash leaves.
-        ensures refused { IfErr result (λ e. (e.0 ≡ KeeperError.Device) ⊎ ((e.0 ≡ KeeperError.Memory)
-            ⊎ ((D.view disk).lawful
-            → IsDurable (D.view e.1).state × Told plan.now (D.view e.1).state.bytes (Refused e.0)))) }
+        ensures refused { IfErr result (λ e. SyncedRefuses D.view plan.now e.0 disk e.1) }
 
         // What a crash may leave since the start of the call, it might have left then.
-        ensures crash_safe { (D.view disk).lawful → CrashSafe Unchanged (D.view disk).state (D.view (disk_in result)).state }
+        ensures crash_safe { WritesNothing D.view disk (disk_in result) }
 
         // A call of the disk that failed is never told as want of memory.
         ensures device { KeepsDevice D.view Device (outcome result) disk (disk_in result) }
@@ -215,8 +211,7 @@ impl<D: Disk, L: Law> Keeper<D, L> {
     /// The disk.
     pub fn into_disk(self) -> D
         ensures disk { result ≡ self.device }
-        ensures held { (D.view self.device).lawful
-            → HeldWhere self.broken L.answers self.plan self.head self.side self.standing (D.view self.device).state }
+        ensures held { HoldsStanding D.view L.answers self }
     {
         let Keeper {
             alloc: _,

@@ -7,6 +7,7 @@ ghost use Rattle.td_journal.specs.declared.submitted.Submitted.{Submitted as Any
 ghost use Rattle.td_store.specs.standing.Stops.{Stands};
 ghost use Rattle.td_store.specs.standing.Advanced.{HeldWhere, states_by};
 ghost use Rattle.td_keeper.specs.Keeping.{Keeping, IsKeeping, EachKeepsTo, KeepsSince, KeepsToWhere};
+ghost use Rattle.td_keeper.specs.Calls.{HoldsStanding};
 ghost use Rattle.td_keeper.specs.declared.command.Command.{Command as AnyCommand};
 ghost use Rattle.td_keeper.specs.declared.command.Reply.{Reply as AnyReply};
 ghost use Rattle.td_keeper.specs.Acknowledged.{acknowledged_by, outs_of, HandsOutUpTo, Acknowledges, TellsWork};
@@ -38,8 +39,7 @@ pub fn each_at_work_is_kept<D: Disk, L: Law, R, E: Obey<D, L, R>>(engine: &E)
 /// And a lawful disk of each keeper holds what it stands for, image by image; after a fault of the device in a call that writes,
 /// an advance of it that holds all of its epochs.
 pub fn each_disk_holds<D: Disk, L: Law>(keeper: &Keeper<D, L>)
-    ensures { (D.view keeper.now.device).lawful
-        → HeldWhere keeper.now.broken L.answers keeper.now.plan keeper.now.head keeper.now.side keeper.now.standing (D.view keeper.now.device).state }
+    ensures { HoldsStanding D.view L.answers keeper.now }
 {
     // Read for its contract alone.
     let _collected = keeper.collected;

@@ -8,7 +8,7 @@ ghost use Rattle.td_keeper.specs.Keeping.{with_batch};
 ghost use Rattle.td_keeper.specs.Refused.{is_new, submit_refusal, request_refusal, submit_as_refusal};
 ghost use Rattle.td_store.specs.declared.standing.error.KeeperError.TheVariants.{Memory, Device, Broken, OldVersion};
 ghost use Rattle.td_disk.specs.Calls.{KeepsDevice};
-ghost use Rattle.td_keeper.specs.Calls.{IsSubmitted, IsAnswered, IsRefused, CrashLeaves, outcome};
+ghost use Rattle.td_keeper.specs.Calls.{IsSubmitted, IsAnswered, IsRefused, LeavesAtCrash, outcome};
 
 use crate::keeper::Keeper;
 use crate::receipt::Receipt;
@@ -40,7 +40,7 @@ impl<D: Disk, L: Law> Keeper<D, L> {
 
         // At every moment of the call a crash leaves what the disk stood for, or that with the batch. After Ok the disk holds what the keeper stands for
         // (`laws::each_disk_holds`).
-        ensures crash { (D.view self.old.device).lawful → CrashLeaves L.answers (submission 0 batch ∷ []) self.old (D.view self.old.device).state (D.view self.new.device).state }
+        ensures crash { LeavesAtCrash D.view L.answers (submission 0 batch ∷ []) self.old self.new }
         ensures device { KeepsDevice D.view Device (outcome result) self.old.device self.new.device }
 
         // The greatest request number stays, since this epoch has none.
@@ -71,7 +71,7 @@ impl<D: Disk, L: Law> Keeper<D, L> {
         // A request that is repeated is refused for these two causes alone.
         ensures repeated { is_new self.old.standing request ≡ false → IfErr result (λ e. (e.0 ≡ Broken) ⊎ (e.0 ≡ OldVersion)) }
         ensures back { IfErr result (λ e. e.1 ≡ batch) }
-        ensures crash { (D.view self.old.device).lawful → CrashLeaves L.answers (submission request batch ∷ []) self.old (D.view self.old.device).state (D.view self.new.device).state }
+        ensures crash { LeavesAtCrash D.view L.answers (submission request batch ∷ []) self.old self.new }
         ensures device { KeepsDevice D.view Device (outcome result) self.old.device self.new.device }
 
         // The greatest request number never falls, and then it is at least this one.
@@ -101,7 +101,7 @@ impl<D: Disk, L: Law> Keeper<D, L> {
         ensures accepted { IfOk result (λ _. submit_refusal self.old batch ≡ None) }
         ensures refused { IfErr result (λ e. IsRefused D.view L.answers Memory Device (submit_refusal self.old batch) e.0 self.old self.new) }
         ensures back { IfErr result (λ e. e.1 ≡ batch) }
-        ensures crash { (D.view self.old.device).lawful → CrashLeaves L.answers (submission request batch ∷ []) self.old (D.view self.old.device).state (D.view self.new.device).state }
+        ensures crash { LeavesAtCrash D.view L.answers (submission request batch ∷ []) self.old self.new }
         ensures device { KeepsDevice D.view Device (outcome result) self.old.device self.new.device }
         ensures last_request { OnOk result (last_request self.new.standing ≡ max (last_request self.old.standing) request) }
     {

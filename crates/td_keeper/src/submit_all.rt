@@ -15,7 +15,7 @@ ghost use Rattle.td_keeper.specs.Refused.{has_number, all_accepted, all_few, gro
 ghost use Rattle.td_store.specs.declared.standing.error.KeeperError.TheVariants.{Memory, Device};
 ghost use Rattle.td_keeper.specs.declared.group.GroupError.TheVariants.{Keeper as ByKeeper};
 ghost use Rattle.td_disk.specs.Calls.{KeepsDevice};
-ghost use Rattle.td_keeper.specs.Calls.{IsAllSubmitted, IsRefused, CrashLeaves, outcome};
+ghost use Rattle.td_keeper.specs.Calls.{IsAllSubmitted, IsRefused, LeavesAllOrNone, LeavesAtCrash, outcome};
 
 use crate::group::{Group, GroupError};
 use crate::keeper::Keeper;
@@ -50,9 +50,8 @@ impl<D: Disk, L: Law> Keeper<D, L> {
         ensures back { IfErr result (λ e. e.1 ≡ group) }
 
         // At every moment of the call a crash leaves what the disk stood for, or that with the whole group.
-        ensures all_or_none { (D.view self.old.device).lawful → self.old.broken ≡ false
-            → AllOrNone self.old.plan self.old.standing group (D.view self.old.device).state.moment (D.view self.new.device).state }
-        ensures crash { (D.view self.old.device).lawful → CrashLeaves L.answers group self.old (D.view self.old.device).state (D.view self.new.device).state }
+        ensures all_or_none { LeavesAllOrNone D.view group self.old self.new }
+        ensures crash { LeavesAtCrash D.view L.answers group self.old self.new }
         ensures device { KeepsDevice D.view (ByKeeper Device) (outcome result) self.old.device self.new.device }
 
         // The greatest request number is raised by those of the group.

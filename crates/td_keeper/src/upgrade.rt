@@ -1,13 +1,11 @@
 //! Raising a disk to the version of the format that has request numbers.
-ghost use Rattle.std.specs.Prelude.{◌≡◌, ◌⊎◌, ◌<◌, ◌≤◌, [], false, true, None, Some, Ok, IfErr, IsErrOf, List, ℕ};
+ghost use Rattle.std.specs.Prelude.{◌≡◌, ◌⊎◌, ◌<◌, ◌≤◌, false, true, None, Some, Ok, IfErr, IsErrOf};
 ghost use Rattle.td_head.specs.Head.{raised};
-ghost use Rattle.td_store.specs.standing.Standing.{last_epoch};
-ghost use Rattle.td_store.specs.standing.Told.{Told};
-ghost use Rattle.td_store.specs.standing.Read.{Stood};
-ghost use Rattle.td_store.specs.standing.Advanced.{AdvancesSince};
 ghost use Rattle.td_keeper.specs.Refused.{upgrade_refusal};
 ghost use Rattle.td_store.specs.declared.standing.error.KeeperError.TheVariants.{Memory, Device};
 ghost use Rattle.td_disk.specs.Calls.{KeepsDevice};
+ghost use Rattle.td_gate.specs.Steps.{SameUnless};
+ghost use Rattle.td_keeper.specs.Calls.{ComesLater, TellsAllAlong, TellsFurther};
 
 use crate::keeper::Keeper;
 use crate::submit::NUMBERED;
@@ -29,20 +27,18 @@ impl<D: Disk, L: Law> Keeper<D, L> {
         ensures already { result ≡ Ok false → (2 ≤ self.old.head.version) × (self.new ≡ self.old) }
         ensures refused { IfErr result (λ e. (upgrade_refusal self.old ≡ Some e)
             ⊎ ((upgrade_refusal self.old ≡ None) × (self.old.head.version < 2) × ((e ≡ Memory) ⊎ (e ≡ Device)))) }
-        ensures unchanged { IfErr result (λ e. (e ≡ Device) ⊎ (self.new ≡ self.old)) }
+        ensures unchanged { IfErr result (λ e. SameUnless Device e self.old self.new) }
         ensures broken { IsErrOf result Device → self.new ≡ record self.old { device = self.new.device; broken = true } }
         ensures device { KeepsDevice D.view Device result self.old.device self.new.device }
 
         // What a crash may leave after the call is among what it may leave since the start.
-        ensures later { (D.view self.old.device).lawful → self.old.broken ≡ false → (D.view self.old.device).state.moment ≤ (D.view self.new.device).state.moment }
+        ensures later { ComesLater D.view self.old self.new }
 
         // In each image since the start of the call the disk tells what the keeper stands for, in version 1 or 2.
-        ensures told { (D.view self.old.device).lawful → self.old.broken ≡ false → (c : List ℕ)
-            → (D.view self.new.device).state.since (D.view self.old.device).state.moment c → Told self.old.plan c (Stood self.old.standing) }
+        ensures told { TellsAllAlong D.view self.old self.new }
 
         // Each image since an earlier moment was one by the start of the call, or the disk tells it there.
-        ensures further { (D.view self.old.device).lawful → self.old.broken ≡ false
-            → AdvancesSince L.answers self.old.plan self.old.standing [] (last_epoch self.old.standing) (D.view self.old.device).state (D.view self.new.device).state }
+        ensures further { TellsFurther D.view L.answers self.old self.new }
     {
         laws::told_in_parts();
         laws::standings_advance::<L>();

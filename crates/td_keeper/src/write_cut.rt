@@ -8,7 +8,7 @@ ghost use Rattle.td_keeper.specs.Keeping.{is_waiting};
 ghost use Rattle.td_keeper.specs.Refused.{waits_after};
 ghost use Rattle.td_store.specs.declared.standing.error.KeeperError.TheVariants.{Memory, Device, TooManyKeys};
 ghost use Rattle.td_disk.specs.Calls.{KeepsDevice};
-ghost use Rattle.td_keeper.specs.Calls.{IsWritten, IsUnwritten, CrashLeaves};
+ghost use Rattle.td_keeper.specs.Calls.{IsWritten, IsUnwritten, LeavesAtCrash};
 
 use crate::keeper::{Keeper, Taken};
 use crate::watch::{publish, words_at};
@@ -33,7 +33,7 @@ impl<D: Disk, L: Law> Keeper<D, L> {
         ensures refused { IfErr result (λ e. IsUnwritten e self.old self.new) }
 
         // At every moment of the call a crash leaves the old checkpoint or the new, and each epoch that was there.
-        ensures crash { (D.view self.old.device).lawful → CrashLeaves L.answers [] self.old (D.view self.old.device).state (D.view self.new.device).state }
+        ensures crash { LeavesAtCrash D.view L.answers [] self.old self.new }
         ensures device { KeepsDevice D.view Device result self.old.device self.new.device }
 
         // The greatest request number stays.

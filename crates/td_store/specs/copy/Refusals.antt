@@ -44,4 +44,4 @@ abbrev pub RefusesCopy : {D E X : Type 0} → (D → DiskView) → (E → DiskVi
     → List Line → Option ℕ → Sizes → D → D → X → Type 0
 RefusesCopy view new_view gives makes plan until sizes old left x =
     IsNotCopied gives (IsNotRead plan (view old).lawful (view left).state (view old).failures (view left).failures)
-        (λ s. (view old).lawful → EachTold plan s (view left).state) makes (IsNotPut new_view) until sizes x
+    (λ s. (view old).lawful → EachTold plan s (view left).state) makes (IsNotPut new_view) until sizes x

@@ -15,7 +15,7 @@ returns-clause-free g c =
           let new = c.close_cells.new.device in
           let safe = subst (λ (j : Journal). CrashSafe (ClosesSome j c.args.first c.args.count) (view old).state (view new).state) ring (c.close_cells.ensures.crash_safe lawful keeps.durable) in
           c.closing_is_safe.ensures.begun plan h side s c.args.first c.args.count old new free (each_keeps plan h side s (view old).state keeps) safe;
-      done = 
+      done =
           let view = g.D.Disk.view in
           let old = c.args.device.now in
           let new = c.close_cells.new.device in

@@ -34,7 +34,7 @@ returns-then-is_alone-clause-group g c =
           (c.submit_batch.ensures.batch.begun lawful plan h side s ring has new batch keeps t f le left);
       unwritten = c.submit_batch.ensures.batch.unwritten;
       kept = c.submit_batch.ensures.batch.kept;
-      done = 
+      done =
           let view = g.D.Disk.view in
           let x : Submitted = c.in-Some.head.now in
           let alone : c.args.group.now ≡ x ∷ [] = c.in-Some.ensures.cases.0 ∙ ap (λ (l : List Submitted). x ∷ l) (none_left c.in-Some.others.now (c.is_alone.ensures c.if-is_alone.true)) in
@@ -64,7 +64,7 @@ returns-clause-group g c =
           (c.put_group.ensures.begun lawful plan h side s ring has new batches keeps t f le left);
       unwritten = c.put_group.ensures.unwritten;
       kept = c.put_group.ensures.kept;
-      done = 
+      done =
           let view = g.D.Disk.view in
           let x : Submitted = c.in-Some.head.now in
           let is : c.args.group.now ≡ x ∷ c.in-Some.others.now = c.in-Some.ensures.cases.0 in

@@ -47,22 +47,22 @@ returns-clause-head g c =
           let same : new ≡ old = untouched c.raise.result (new ≡ old) (c.raise.ensures.last.1 last) c.raise.ensures.untouched in
           inl (subst (λ (d : g.row.D.Denot). (view d).state.since t f) same left))
           (cases_lt h.generation (2 ^ 64 - 1));
-      done = 
+      done =
           both c.raise.result c.raise.ensures.put.is_open c.raise.ensures.put.durable (λ ok is opens durable lawful side s keeps.
-             let view = g.D.Disk.view in
-             let laws = g.met.D.Disk in
-             let old = c.args.device.now in
-             let new = c.raise.new.device in
-             let plan = c.args.plan.now in
-             let h = c.args.head.now in
-             let other = head_of_side (1 - h.side) in
-             let settled : IsSettled other (view old).state = c.durable_is_settled.ensures old other keeps.durable in
-             let small : h.generation + 1 < 2 ^ 64 = ⊎_elim (λ lt. omega (arith, lt))
-             (λ ge. let last : h.generation ≡ 2 ^ 64 - 1 = omega (arith, ge) in not_both c.raise.result ok is (c.raise.ensures.last.1 last)) (cases_lt h.generation (2 ^ 64 - 1)) in
-             let also = c.raise.ensures.device.lawful.0 lawful in
-             record {
-               durable = durable lawful;
-               tells = c.raise_is_safe.ensures.done plan h side s old new c.vertices-vertices.ensures.lawful (each_keeps plan h side s (view old).state keeps) small also
-                   (c.raise.ensures.put.crash_safe lawful settled) (opens lawful settled) (view new).state.bytes (laws.reads_image new also);
-             });
+          let view = g.D.Disk.view in
+          let laws = g.met.D.Disk in
+          let old = c.args.device.now in
+          let new = c.raise.new.device in
+          let plan = c.args.plan.now in
+          let h = c.args.head.now in
+          let other = head_of_side (1 - h.side) in
+          let settled : IsSettled other (view old).state = c.durable_is_settled.ensures old other keeps.durable in
+          let small : h.generation + 1 < 2 ^ 64 = ⊎_elim (λ lt. omega (arith, lt))
+          (λ ge. let last : h.generation ≡ 2 ^ 64 - 1 = omega (arith, ge) in not_both c.raise.result ok is (c.raise.ensures.last.1 last)) (cases_lt h.generation (2 ^ 64 - 1)) in
+          let also = c.raise.ensures.device.lawful.0 lawful in
+          record {
+            durable = durable lawful;
+            tells = c.raise_is_safe.ensures.done plan h side s old new c.vertices-vertices.ensures.lawful (each_keeps plan h side s (view old).state keeps) small also
+                (c.raise.ensures.put.crash_safe lawful settled) (opens lawful settled) (view new).state.bytes (laws.reads_image new also);
+          });
     }
