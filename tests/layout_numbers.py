@@ -71,7 +71,7 @@ PLACES = {
     ],
     ANEW: [
         "engine_steps/src/ring_calls.rt: 24, 2",
-        "engine_steps/src/ring_calls.rt: 65536, 4",
+        "engine_steps/src/ring_calls.rt: 65536, 3",
         "td_feed/src/at_once.rt: 24, 1",
         "td_feed/src/at_once.rt: 25, 1",
         "td_head/src/shape.rt: 24, 1",

@@ -256,7 +256,8 @@ impl Journal {
     /// It stands for one who keeps a ring alone. A keeper weighs `Full` and `TooManyRecords` itself, and calls
     /// `payload`, `clear` and `Region::put` in turn, since the cell behind is to be closed between the first and the last.
     ///
-    /// It looks at no request number: that one is above those before is asked by `laws::next_is_put`.
+    /// It looks at no request number: that one is above those before is asked by `laws::next_is_put`. Nor does it at the epoch: one
+    /// of 2^63 or above may be put, and no reading looks for it.
     pub fn append<D: Disk>(
         &self,
         alloc: Global,
