@@ -2,9 +2,10 @@
 ghost use Rattle.std.specs.Prelude.{◌≡◌, false, IfOk, IsOkAnd};
 ghost use Rattle.clap.specs.Words.{app_of, new_app, rule_of, with_rule, with_subcommand};
 ghost use Rattle.td_words.specs.Command.{alone, td, batch_app, run_app, sim_app, format_app, feed_app, show_app, dump_app, upgrade_app, copy_app, states_app, load_app};
+ghost use Rattle.td_words.specs.Command.{with_files, with_shape};
 ghost use Rattle.td_words.specs.Command.{workers_rule, picks_rule, word_rule, number_rule, option_rule, flag_rule, file_rule};
 ghost use Rattle.td_words.specs.Command.{stream_app, plan_app};
-ghost use Rattle.td_words.specs.Jobs.{has_globals};
+ghost use Rattle.td_words.specs.Jobs.{has_globals, td_to_show, with_stream_flags};
 
 use clap::builder::ValueParser;
 use clap::{Arg, ArgAction, Command};
@@ -288,24 +289,30 @@ Exit status: 0; 3 the device failed; 4 an operator is wanted; 5 a line of the in
         7 a file; 1 any other fault
 Each fault is explained by 'td help faults'";
 
-/// `td` with its subcommands.
+/// `td` with its subcommands. No step ends the chain early: each `?` would cost the proof an exit of its own.
 pub(crate) fn command<'a>(alloc: Global) -> Result<Command<'a>, AllocError>
     ensures { IfOk result (λ c. app_of c ≡ td) }
 {
-    let td = alone(alloc);
-    let td = with_leaf(td, batch_leaf(alloc))?;
-    let td = with_leaf(td, run_leaf(alloc))?;
-    let td = with_leaf(td, sim_leaf(alloc))?;
-    let td = with_leaf(td, format_leaf(alloc))?;
-    let td = with_leaf(td, feed_leaf(alloc))?;
-    let td = with_leaf(td, show_leaf(alloc))?;
-    let td = with_leaf(td, dump_leaf(alloc))?;
-    let td = with_leaf(td, upgrade_leaf(alloc))?;
-    let td = with_leaf(td, copy_leaf(alloc))?;
-    let td = with_leaf(td, states_leaf(alloc))?;
-    let td = with_leaf(td, load_leaf(alloc))?;
-    let td = with_leaf(td, stream_leaf(alloc))?;
+    let td = command_to_show(alloc);
+    let td = with_leaf(td, dump_leaf(alloc));
+    let td = with_leaf(td, upgrade_leaf(alloc));
+    let td = with_leaf(td, copy_leaf(alloc));
+    let td = with_leaf(td, states_leaf(alloc));
+    let td = with_leaf(td, load_leaf(alloc));
+    let td = with_leaf(td, stream_leaf(alloc));
     with_leaf(td, plan_leaf(alloc))
+}
+
+/// `td` with its subcommands up to `show`. The proof of a chain costs the square of its length.
+fn command_to_show<'a>(alloc: Global) -> Result<Command<'a>, AllocError>
+    ensures { IfOk result (λ c. app_of c ≡ td_to_show) }
+{
+    let td = with_leaf(Ok(alone(alloc)), batch_leaf(alloc));
+    let td = with_leaf(td, run_leaf(alloc));
+    let td = with_leaf(td, sim_leaf(alloc));
+    let td = with_leaf(td, format_leaf(alloc));
+    let td = with_leaf(td, feed_leaf(alloc));
+    with_leaf(td, show_leaf(alloc))
 }
 
 /// `td` without its subcommands, one of which has to stand there.
@@ -324,7 +331,7 @@ fn batch_leaf<'a>(alloc: Global) -> Result<Command<'a>, AllocError>
     ensures app { IfOk result (λ c. app_of c ≡ batch_app) }
     ensures globals { IfOk result (λ c. has_globals c ≡ false) }
 {
-    let leaf = new_leaf(alloc, "batch", BATCH, BATCH_MORE);
+    let leaf = Ok(new_leaf(alloc, "batch", BATCH, BATCH_MORE));
     with_arg(leaf, file_arg(alloc, "closures", CLOSURES))
 }
 
@@ -333,8 +340,8 @@ fn run_leaf<'a>(alloc: Global) -> Result<Command<'a>, AllocError>
     ensures app { IfOk result (λ c. app_of c ≡ run_app) }
     ensures globals { IfOk result (λ c. has_globals c ≡ false) }
 {
-    let leaf = new_leaf(alloc, "run", RUN, BATCH_MORE);
-    let leaf = with_arg(leaf, workers_arg(alloc))?;
+    let leaf = Ok(new_leaf(alloc, "run", RUN, BATCH_MORE));
+    let leaf = with_arg(leaf, workers_arg(alloc));
     with_arg(leaf, file_arg(alloc, "closures", CLOSURES))
 }
 
@@ -343,9 +350,9 @@ fn sim_leaf<'a>(alloc: Global) -> Result<Command<'a>, AllocError>
     ensures app { IfOk result (λ c. app_of c ≡ sim_app) }
     ensures globals { IfOk result (λ c. has_globals c ≡ false) }
 {
-    let leaf = new_leaf(alloc, "sim", SIM, SIM_MORE);
-    let leaf = with_arg(leaf, workers_arg(alloc))?;
-    let leaf = with_arg(leaf, picks_arg(alloc))?;
+    let leaf = Ok(new_leaf(alloc, "sim", SIM, SIM_MORE));
+    let leaf = with_arg(leaf, workers_arg(alloc));
+    let leaf = with_arg(leaf, picks_arg(alloc));
     with_arg(leaf, file_arg(alloc, "closures", CLOSURES))
 }
 
@@ -354,12 +361,9 @@ fn format_leaf<'a>(alloc: Global) -> Result<Command<'a>, AllocError>
     ensures app { IfOk result (λ c. app_of c ≡ format_app) }
     ensures globals { IfOk result (λ c. has_globals c ≡ false) }
 {
-    let leaf = new_leaf(alloc, "format", FORMAT, FORMAT_MORE);
-    let leaf = with_arg(leaf, word_arg(alloc, "disk", "DISK", NEW_DISK))?;
-    let leaf = with_arg(leaf, word_arg(alloc, "plan", "PLAN", PLAN))?;
-    let leaf = with_arg(leaf, number_arg(alloc, "m", "M", RECORDS))?;
-    let leaf = with_arg(leaf, number_arg(alloc, "n", "N", CELLS))?;
-    let leaf = with_arg(leaf, number_arg(alloc, "k", "K", STATES))?;
+    let leaf = Ok(new_leaf(alloc, "format", FORMAT, FORMAT_MORE));
+    let leaf = with_files(alloc, leaf, NEW_DISK);
+    let leaf = with_shape(alloc, leaf);
     with_arg(leaf, file_arg(alloc, "closures", CLOSURES_OF_DISK))
 }
 
@@ -368,9 +372,8 @@ fn feed_leaf<'a>(alloc: Global) -> Result<Command<'a>, AllocError>
     ensures app { IfOk result (λ c. app_of c ≡ feed_app) }
     ensures globals { IfOk result (λ c. has_globals c ≡ false) }
 {
-    let leaf = new_leaf(alloc, "feed", FEED, FEED_MORE);
-    let leaf = with_arg(leaf, word_arg(alloc, "disk", "DISK", DISK))?;
-    let leaf = with_arg(leaf, word_arg(alloc, "plan", "PLAN", PLAN))?;
+    let leaf = Ok(new_leaf(alloc, "feed", FEED, FEED_MORE));
+    let leaf = with_files(alloc, leaf, DISK);
     with_arg(leaf, workers_arg(alloc))
 }
 
@@ -379,9 +382,8 @@ fn show_leaf<'a>(alloc: Global) -> Result<Command<'a>, AllocError>
     ensures app { IfOk result (λ c. app_of c ≡ show_app) }
     ensures globals { IfOk result (λ c. has_globals c ≡ false) }
 {
-    let leaf = new_leaf(alloc, "show", SHOW, SHOW_MORE);
-    let leaf = with_arg(leaf, word_arg(alloc, "disk", "DISK", DISK))?;
-    let leaf = with_arg(leaf, word_arg(alloc, "plan", "PLAN", PLAN))?;
+    let leaf = Ok(new_leaf(alloc, "show", SHOW, SHOW_MORE));
+    let leaf = with_files(alloc, leaf, DISK);
     with_arg(leaf, flag_arg(alloc, "live", LIVE))
 }
 
@@ -390,10 +392,9 @@ fn dump_leaf<'a>(alloc: Global) -> Result<Command<'a>, AllocError>
     ensures app { IfOk result (λ c. app_of c ≡ dump_app) }
     ensures globals { IfOk result (λ c. has_globals c ≡ false) }
 {
-    let leaf = new_leaf(alloc, "dump", DUMP, DUMP_MORE);
-    let leaf = with_arg(leaf, word_arg(alloc, "disk", "DISK", DISK))?;
-    let leaf = with_arg(leaf, word_arg(alloc, "plan", "PLAN", PLAN))?;
-    let leaf = with_arg(leaf, flag_arg(alloc, "live", LIVE))?;
+    let leaf = Ok(new_leaf(alloc, "dump", DUMP, DUMP_MORE));
+    let leaf = with_files(alloc, leaf, DISK);
+    let leaf = with_arg(leaf, flag_arg(alloc, "live", LIVE));
     with_arg(leaf, flag_arg(alloc, "at", AT_LINES))
 }
 
@@ -402,9 +403,8 @@ fn upgrade_leaf<'a>(alloc: Global) -> Result<Command<'a>, AllocError>
     ensures app { IfOk result (λ c. app_of c ≡ upgrade_app) }
     ensures globals { IfOk result (λ c. has_globals c ≡ false) }
 {
-    let leaf = new_leaf(alloc, "upgrade", UPGRADE, UPGRADE_MORE);
-    let leaf = with_arg(leaf, word_arg(alloc, "disk", "DISK", DISK))?;
-    with_arg(leaf, word_arg(alloc, "plan", "PLAN", PLAN))
+    let leaf = Ok(new_leaf(alloc, "upgrade", UPGRADE, UPGRADE_MORE));
+    with_files(alloc, leaf, DISK)
 }
 
 /// `copy`.
@@ -412,13 +412,10 @@ fn copy_leaf<'a>(alloc: Global) -> Result<Command<'a>, AllocError>
     ensures app { IfOk result (λ c. app_of c ≡ copy_app) }
     ensures globals { IfOk result (λ c. has_globals c ≡ false) }
 {
-    let leaf = new_leaf(alloc, "copy", COPY, COPY_MORE);
-    let leaf = with_arg(leaf, word_arg(alloc, "disk", "DISK", DISK))?;
-    let leaf = with_arg(leaf, word_arg(alloc, "plan", "PLAN", PLAN))?;
-    let leaf = with_arg(leaf, word_arg(alloc, "new", "NEW", COPIED_DISK))?;
-    let leaf = with_arg(leaf, number_arg(alloc, "m", "M", RECORDS))?;
-    let leaf = with_arg(leaf, number_arg(alloc, "n", "N", CELLS))?;
-    let leaf = with_arg(leaf, number_arg(alloc, "k", "K", STATES))?;
+    let leaf = Ok(new_leaf(alloc, "copy", COPY, COPY_MORE));
+    let leaf = with_files(alloc, leaf, DISK);
+    let leaf = with_arg(leaf, word_arg(alloc, "new", "NEW", COPIED_DISK));
+    let leaf = with_shape(alloc, leaf);
     with_arg(leaf, option_arg(alloc, "until", "E", 0, GREATEST, UNTIL))
 }
 
@@ -427,9 +424,8 @@ fn states_leaf<'a>(alloc: Global) -> Result<Command<'a>, AllocError>
     ensures app { IfOk result (λ c. app_of c ≡ states_app) }
     ensures globals { IfOk result (λ c. has_globals c ≡ false) }
 {
-    let leaf = new_leaf(alloc, "states", STATES_OUT, STATES_MORE);
-    let leaf = with_arg(leaf, word_arg(alloc, "disk", "DISK", DISK))?;
-    with_arg(leaf, word_arg(alloc, "plan", "PLAN", PLAN))
+    let leaf = Ok(new_leaf(alloc, "states", STATES_OUT, STATES_MORE));
+    with_files(alloc, leaf, DISK)
 }
 
 /// `load`.
@@ -437,13 +433,11 @@ fn load_leaf<'a>(alloc: Global) -> Result<Command<'a>, AllocError>
     ensures app { IfOk result (λ c. app_of c ≡ load_app) }
     ensures globals { IfOk result (λ c. has_globals c ≡ false) }
 {
-    let leaf = new_leaf(alloc, "load", LOAD, LOAD_MORE);
-    let leaf = with_arg(leaf, word_arg(alloc, "new", "NEW", COPIED_DISK))?;
-    let leaf = with_arg(leaf, word_arg(alloc, "plan", "PLAN", PLAN))?;
-    let leaf = with_arg(leaf, number_arg(alloc, "m", "M", RECORDS))?;
-    let leaf = with_arg(leaf, number_arg(alloc, "n", "N", CELLS))?;
-    let leaf = with_arg(leaf, number_arg(alloc, "k", "K", STATES))?;
-    let leaf = with_arg(leaf, list_arg(alloc, "map", MAP))?;
+    let leaf = Ok(new_leaf(alloc, "load", LOAD, LOAD_MORE));
+    let leaf = with_arg(leaf, word_arg(alloc, "new", "NEW", COPIED_DISK));
+    let leaf = with_arg(leaf, word_arg(alloc, "plan", "PLAN", PLAN));
+    let leaf = with_shape(alloc, leaf);
+    let leaf = with_arg(leaf, list_arg(alloc, "map", MAP));
     with_arg(leaf, file_arg(alloc, "closures", CLOSURES_OF_NEW))
 }
 
@@ -452,24 +446,35 @@ fn stream_leaf<'a>(alloc: Global) -> Result<Command<'a>, AllocError>
     ensures app { IfOk result (λ c. app_of c ≡ stream_app) }
     ensures globals { IfOk result (λ c. has_globals c ≡ false) }
 {
-    let leaf = new_leaf(alloc, "stream", STREAM, STREAM_MORE);
-    let leaf = with_arg(leaf, word_arg(alloc, "disk", "DISK", DISK))?;
-    let leaf = with_arg(leaf, word_arg(alloc, "plan", "PLAN", PLAN))?;
-    let leaf = with_arg(leaf, workers_arg(alloc))?;
+    let leaf = Ok(new_leaf(alloc, "stream", STREAM, STREAM_MORE));
+    let leaf = with_files(alloc, leaf, DISK);
+    let leaf = with_arg(leaf, workers_arg(alloc));
     let leaf = with_arg(
         leaf,
         option_arg(alloc, "cut-every", "E", 1, 65_536, CUT_EVERY),
-    )?;
-    let leaf = with_arg(leaf, option_arg(alloc, "most", "R", 1, GREATEST, MOST))?;
-    let leaf = with_arg(leaf, flag_arg(alloc, "progress", PROGRESS))?;
-    let leaf = with_arg(leaf, flag_arg(alloc, "marks", MARKS))?;
-    let leaf = with_arg(leaf, flag_arg(alloc, "refuse", REFUSE))?;
-    let leaf = with_arg(leaf, flag_arg(alloc, "at", AT))?;
-    let leaf = with_arg(leaf, flag_arg(alloc, "hold", HOLD))?;
-    let leaf = with_arg(leaf, flag_arg(alloc, "room", ROOM))?;
-    let leaf = with_arg(leaf, flag_arg(alloc, "ask", ASK))?;
-    let leaf = with_arg(leaf, file_arg(alloc, "status", STATUS))?;
+    );
+    let leaf = with_arg(leaf, option_arg(alloc, "most", "R", 1, GREATEST, MOST));
+    let leaf = with_stream_flags(alloc, leaf);
+    let leaf = with_arg(leaf, file_arg(alloc, "status", STATUS));
     with_arg(leaf, folder_arg(alloc, "copies", COPIES))
+}
+
+/// The flags of `stream`.
+fn with_stream_flags<'a>(
+    alloc: Global,
+    leaf: Result<Command<'a>, AllocError>,
+) -> Result<Command<'a>, AllocError>
+    requires globals { IfOk leaf (λ l. has_globals l ≡ false) }
+    ensures app { IfOk result (λ c. IsOkAnd leaf.entry (λ l. app_of c ≡ with_stream_flags (app_of l))) }
+    ensures globals { IfOk result (λ c. has_globals c ≡ false) }
+{
+    let leaf = with_arg(leaf, flag_arg(alloc, "progress", PROGRESS));
+    let leaf = with_arg(leaf, flag_arg(alloc, "marks", MARKS));
+    let leaf = with_arg(leaf, flag_arg(alloc, "refuse", REFUSE));
+    let leaf = with_arg(leaf, flag_arg(alloc, "at", AT));
+    let leaf = with_arg(leaf, flag_arg(alloc, "hold", HOLD));
+    let leaf = with_arg(leaf, flag_arg(alloc, "room", ROOM));
+    with_arg(leaf, flag_arg(alloc, "ask", ASK))
 }
 
 /// `plan`.
@@ -477,9 +482,9 @@ fn plan_leaf<'a>(alloc: Global) -> Result<Command<'a>, AllocError>
     ensures app { IfOk result (λ c. app_of c ≡ plan_app) }
     ensures globals { IfOk result (λ c. has_globals c ≡ false) }
 {
-    let leaf = new_leaf(alloc, "plan", LISTING, PLAN_MORE);
-    let leaf = with_arg(leaf, word_arg(alloc, "plan", "PLAN", PLAN_OR_INPUT))?;
-    let leaf = with_arg(leaf, flag_arg(alloc, "dot", DOT))?;
+    let leaf = Ok(new_leaf(alloc, "plan", LISTING, PLAN_MORE));
+    let leaf = with_arg(leaf, word_arg(alloc, "plan", "PLAN", PLAN_OR_INPUT));
+    let leaf = with_arg(leaf, flag_arg(alloc, "dot", DOT));
     with_arg(leaf, file_arg(alloc, "closures", CLOSURES))
 }
 
@@ -491,28 +496,59 @@ fn new_leaf<'a>(alloc: Global, name: &'a str, about: &'a str, more: &'a str) -> 
     Command::new(alloc, name).about(about).after_help(more)
 }
 
-/// A command and one argument more, none of which is global.
-fn with_arg<'a>(command: Command<'a>, arg: Arg<'a>) -> Result<Command<'a>, AllocError>
-    requires local { arg.global ≡ false }
-    requires globals { has_globals command ≡ false }
-    ensures shape { IfOk result (λ c. app_of c ≡ with_rule (app_of command.entry) (rule_of arg.entry)) }
+/// A subcommand with the words DISK, of which help says `disk`, and PLAN.
+fn with_files<'a>(
+    alloc: Global,
+    leaf: Result<Command<'a>, AllocError>,
+    disk: &'a str,
+) -> Result<Command<'a>, AllocError>
+    requires globals { IfOk leaf (λ l. has_globals l ≡ false) }
+    ensures app { IfOk result (λ c. IsOkAnd leaf.entry (λ l. app_of c ≡ with_files (app_of l))) }
     ensures globals { IfOk result (λ c. has_globals c ≡ false) }
 {
-    command.arg(arg)
+    let leaf = with_arg(leaf, word_arg(alloc, "disk", "DISK", disk));
+    with_arg(leaf, word_arg(alloc, "plan", "PLAN", PLAN))
 }
 
-/// `td` and one subcommand more, without a global argument, where that one could be made.
-fn with_leaf<'a>(
-    td: Command<'a>,
+/// A subcommand with the numbers M, N and K.
+fn with_shape<'a>(
+    alloc: Global,
     leaf: Result<Command<'a>, AllocError>,
 ) -> Result<Command<'a>, AllocError>
     requires globals { IfOk leaf (λ l. has_globals l ≡ false) }
-    ensures { IfOk result (λ c. IsOkAnd leaf.entry (λ l. app_of c ≡ with_subcommand (app_of td.entry) (app_of l).top)) }
+    ensures app { IfOk result (λ c. IsOkAnd leaf.entry (λ l. app_of c ≡ with_shape (app_of l))) }
+    ensures globals { IfOk result (λ c. has_globals c ≡ false) }
 {
-    match leaf {
-        Ok(leaf) => td.subcommand(leaf),
-        Err(error) => Err(error),
-    }
+    let leaf = with_arg(leaf, number_arg(alloc, "m", "M", RECORDS));
+    let leaf = with_arg(leaf, number_arg(alloc, "n", "N", CELLS));
+    with_arg(leaf, number_arg(alloc, "k", "K", STATES))
+}
+
+/// A subcommand, where it could be made so far, and one argument more, none of which is global.
+fn with_arg<'a>(
+    leaf: Result<Command<'a>, AllocError>,
+    arg: Arg<'a>,
+) -> Result<Command<'a>, AllocError>
+    requires local { arg.global ≡ false }
+    requires globals { IfOk leaf (λ l. has_globals l ≡ false) }
+    ensures shape { IfOk result (λ c. IsOkAnd leaf.entry (λ l. app_of c ≡ with_rule (app_of l) (rule_of arg.entry))) }
+    ensures globals { IfOk result (λ c. has_globals c ≡ false) }
+{
+    let leaf = leaf?;
+    leaf.arg(arg)
+}
+
+/// `td`, where it could be made so far, and one subcommand more, without a global argument, where that one could be made.
+fn with_leaf<'a>(
+    td: Result<Command<'a>, AllocError>,
+    leaf: Result<Command<'a>, AllocError>,
+) -> Result<Command<'a>, AllocError>
+    requires globals { IfOk leaf (λ l. has_globals l ≡ false) }
+    ensures { IfOk result (λ c. IsOkAnd td.entry (λ d. IsOkAnd leaf.entry (λ l. app_of c ≡ with_subcommand (app_of d) (app_of l).top))) }
+{
+    let td = td?;
+    let leaf = leaf?;
+    td.subcommand(leaf)
 }
 
 /// `--workers W`.

@@ -2,7 +2,7 @@
 
 /// What is asked for. A list of picks and the names of files are as they were given. Where there is a file `closures`, the closures of
 /// its text stand beside the catalogue's.
-#[derive(Debug, Drop)]
+#[derive(Drop)]
 pub enum Job<'a> {
     /// To run a batch from standard input to standard output.
     Batch {

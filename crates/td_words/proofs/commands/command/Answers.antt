@@ -1,24 +1,42 @@
-use Rattle.std.proofs.Common.{ap, ◌≡◌, ◌∙◌}
-use Rattle.std.proofs.lemmas.Result.{IfOk-weaker}
-use Rattle.clap.specs.Words.{App, Shape, app_of, with_subcommand}
-use Rattle.td_words.specs.Command.{alone, batch_app, run_app, sim_app, format_app, feed_app, show_app, dump_app, upgrade_app, copy_app, states_app, load_app, stream_app, plan_app}
-use Rattle.td_words.proofs.Leaves.{grown}
+use Rattle.clap.specs.Words.{App, with_subcommand}
+use Rattle.td_words.specs.Command.{dump_app, upgrade_app, copy_app, states_app, load_app, stream_app, plan_app}
+use Rattle.td_words.specs.Jobs.{td_to_show}
+use Rattle.td_words.proofs.Leaves.{grown, by_leaf}
 use Rattle.td_words.proofs.commands.command.Goals as goal
+
+pub with_leaf-td-requires : goal.with_leaf-td-requires
+with_leaf-td-requires c = record { globals = c.dump_leaf.ensures.globals }
+
+pub with_leaf-td-requires-2 : goal.with_leaf-td-requires-2
+with_leaf-td-requires-2 c = record { globals = c.upgrade_leaf.ensures.globals }
+
+pub with_leaf-td-requires-3 : goal.with_leaf-td-requires-3
+with_leaf-td-requires-3 c = record { globals = c.copy_leaf.ensures.globals }
+
+pub with_leaf-td-requires-4 : goal.with_leaf-td-requires-4
+with_leaf-td-requires-4 c = record { globals = c.states_leaf.ensures.globals }
+
+pub with_leaf-td-requires-5 : goal.with_leaf-td-requires-5
+with_leaf-td-requires-5 c = record { globals = c.load_leaf.ensures.globals }
+
+pub with_leaf-td-requires-6 : goal.with_leaf-td-requires-6
+with_leaf-td-requires-6 c = record { globals = c.stream_leaf.ensures.globals }
+
+pub with_leaf-requires : goal.with_leaf-requires
+with_leaf-requires c = record { globals = c.plan_leaf.ensures.globals }
 
 pub returns : goal.returns
 returns c =
-    let with : App → Shape → App = λ a s. with_subcommand a s in
-    let plain : app_of c.alone-td.result ≡ alone = c.alone-td.ensures.app in
-    let batch = grown c.batch_leaf.result _ (app_of c.alone-td.result) batch_app c.in_ok-td.ensures c.batch_leaf.ensures.app ∙ ap (λ (a : App). with a batch_app.top) plain in
-    let run = grown c.run_leaf.result _ (app_of c.in_ok-td.td) run_app c.in_ok-td-2.ensures c.run_leaf.ensures.app ∙ ap (λ (a : App). with a run_app.top) batch in
-    let sim = grown c.sim_leaf.result _ (app_of c.in_ok-td-2.td) sim_app c.in_ok-td-3.ensures c.sim_leaf.ensures.app ∙ ap (λ (a : App). with a sim_app.top) run in
-    let format = grown c.format_leaf.result _ (app_of c.in_ok-td-3.td) format_app c.in_ok-td-4.ensures c.format_leaf.ensures.app ∙ ap (λ (a : App). with a format_app.top) sim in
-    let feed = grown c.feed_leaf.result _ (app_of c.in_ok-td-4.td) feed_app c.in_ok-td-5.ensures c.feed_leaf.ensures.app ∙ ap (λ (a : App). with a feed_app.top) format in
-    let show = grown c.show_leaf.result _ (app_of c.in_ok-td-5.td) show_app c.in_ok-td-6.ensures c.show_leaf.ensures.app ∙ ap (λ (a : App). with a show_app.top) feed in
-    let dump = grown c.dump_leaf.result _ (app_of c.in_ok-td-6.td) dump_app c.in_ok-td-7.ensures c.dump_leaf.ensures.app ∙ ap (λ (a : App). with a dump_app.top) show in
-    let upgrade = grown c.upgrade_leaf.result _ (app_of c.in_ok-td-7.td) upgrade_app c.in_ok-td-8.ensures c.upgrade_leaf.ensures.app ∙ ap (λ (a : App). with a upgrade_app.top) dump in
-    let copy = grown c.copy_leaf.result _ (app_of c.in_ok-td-8.td) copy_app c.in_ok-td-9.ensures c.copy_leaf.ensures.app ∙ ap (λ (a : App). with a copy_app.top) upgrade in
-    let states = grown c.states_leaf.result _ (app_of c.in_ok-td-9.td) states_app c.in_ok-td-10.ensures c.states_leaf.ensures.app ∙ ap (λ (a : App). with a states_app.top) copy in
-    let load = grown c.load_leaf.result _ (app_of c.in_ok-td-10.td) load_app c.in_ok-td-11.ensures c.load_leaf.ensures.app ∙ ap (λ (a : App). with a load_app.top) states in
-    let stream = grown c.stream_leaf.result _ (app_of c.in_ok-td-11.td) stream_app c.in_ok-td-12.ensures c.stream_leaf.ensures.app ∙ ap (λ (a : App). with a stream_app.top) load in
-    IfOk-weaker c.with_leaf-13.result _ _ (λ m h. grown c.plan_leaf.result _ (app_of c.in_ok-td-12.td) plan_app h c.plan_leaf.ensures.app ∙ ap (λ (a : App). with a plan_app.top) stream) c.with_leaf-13.ensures
+    let app_1 : App = with_subcommand td_to_show dump_app.top in
+    let is_1 = grown c.command_to_show-td.result c.with_leaf-td.result (λ a. with_subcommand a dump_app.top) td_to_show (by_leaf c.command_to_show-td.result c.dump_leaf.result c.with_leaf-td.result dump_app c.with_leaf-td.ensures c.dump_leaf.ensures.app) c.command_to_show-td.ensures in
+    let app_2 : App = with_subcommand app_1 upgrade_app.top in
+    let is_2 = grown c.with_leaf-td.result c.with_leaf-td-2.result (λ a. with_subcommand a upgrade_app.top) app_1 (by_leaf c.with_leaf-td.result c.upgrade_leaf.result c.with_leaf-td-2.result upgrade_app c.with_leaf-td-2.ensures c.upgrade_leaf.ensures.app) is_1 in
+    let app_3 : App = with_subcommand app_2 copy_app.top in
+    let is_3 = grown c.with_leaf-td-2.result c.with_leaf-td-3.result (λ a. with_subcommand a copy_app.top) app_2 (by_leaf c.with_leaf-td-2.result c.copy_leaf.result c.with_leaf-td-3.result copy_app c.with_leaf-td-3.ensures c.copy_leaf.ensures.app) is_2 in
+    let app_4 : App = with_subcommand app_3 states_app.top in
+    let is_4 = grown c.with_leaf-td-3.result c.with_leaf-td-4.result (λ a. with_subcommand a states_app.top) app_3 (by_leaf c.with_leaf-td-3.result c.states_leaf.result c.with_leaf-td-4.result states_app c.with_leaf-td-4.ensures c.states_leaf.ensures.app) is_3 in
+    let app_5 : App = with_subcommand app_4 load_app.top in
+    let is_5 = grown c.with_leaf-td-4.result c.with_leaf-td-5.result (λ a. with_subcommand a load_app.top) app_4 (by_leaf c.with_leaf-td-4.result c.load_leaf.result c.with_leaf-td-5.result load_app c.with_leaf-td-5.ensures c.load_leaf.ensures.app) is_4 in
+    let app_6 : App = with_subcommand app_5 stream_app.top in
+    let is_6 = grown c.with_leaf-td-5.result c.with_leaf-td-6.result (λ a. with_subcommand a stream_app.top) app_5 (by_leaf c.with_leaf-td-5.result c.stream_leaf.result c.with_leaf-td-6.result stream_app c.with_leaf-td-6.ensures c.stream_leaf.ensures.app) is_5 in
+    grown c.with_leaf-td-6.result c.with_leaf.result (λ a. with_subcommand a plan_app.top) app_6 (by_leaf c.with_leaf-td-6.result c.plan_leaf.result c.with_leaf.result plan_app c.with_leaf.ensures c.plan_leaf.ensures.app) is_6

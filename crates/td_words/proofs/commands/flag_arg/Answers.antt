@@ -1,5 +1,15 @@
-use Rattle.std.proofs.Common.{rules}
+use Rattle.std.proofs.Common.{◌∙◌, ap, Some}
+use Rattle.clap.specs.Words.{Rule, rule_of}
+use Rattle.clap.specs.declared.builder.arg.Arg.{Arg}
+use Rattle.clap.specs.declared.builder.action.ArgAction.TheVariants.{SetTrue}
 use Rattle.td_words.proofs.commands.flag_arg.Goals as goal
 
+-- each call of the builder changes one field of the rule
 pub returns-clause-rule : goal.returns-clause-rule
-returns-clause-rule c = search rules
+returns-clause-rule c =
+    let long = ap rule_of c.long.ensures ∙ ap (λ (r : Rule). record r { long = Some c.args.id.now }) c.new.ensures.rule in
+    let action = ap rule_of c.action.ensures ∙ ap (λ (r : Rule). record r { action = Some SetTrue }) long in
+    ap rule_of c.help.ensures ∙ action
+
+pub returns-clause-local : goal.returns-clause-local
+returns-clause-local c = ap (λ (a : Arg). a.global) c.help.ensures ∙ ap (λ (a : Arg). a.global) c.action.ensures ∙ ap (λ (a : Arg). a.global) c.long.ensures ∙ c.new.ensures.optional.1

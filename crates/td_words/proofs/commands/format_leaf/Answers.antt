@@ -1,13 +1,28 @@
-use Rattle.std.proofs.Common.{ap₂, ◌∙◌}
-use Rattle.std.proofs.lemmas.Result.{IfOk-weaker}
-use Rattle.clap.specs.Words.{with_rule}
+use Rattle.std.specs.Prelude.{Ok, codes}
+use Rattle.clap.specs.Words.{App, new_app, with_rule}
+use Rattle.td_words.specs.Command.{file_rule, with_files, with_shape}
+use Rattle.td_words.proofs.Leaves.{grown, by_rule}
 use Rattle.td_words.proofs.commands.format_leaf.Goals as goal
+
+pub with_files-leaf-requires : goal.with_files-leaf-requires
+with_files-leaf-requires c = record { globals = c.new_leaf.ensures.globals }
+
+pub with_shape-leaf-requires : goal.with_shape-leaf-requires
+with_shape-leaf-requires c = record { globals = c.with_files-leaf.ensures.globals }
+
+pub with_arg-requires-clause-local : goal.with_arg-requires-clause-local
+with_arg-requires-clause-local c = c.file_arg.ensures.local
+
+pub with_arg-requires-clause-globals : goal.with_arg-requires-clause-globals
+with_arg-requires-clause-globals c = c.with_shape-leaf.ensures.globals
 
 pub returns-clause-app : goal.returns-clause-app
 returns-clause-app c =
-    let grown_1 = c.in_ok-leaf.ensures.shape ∙ ap₂ with_rule c.new_leaf-leaf.ensures.app c.word_arg.ensures.rule in
-    let grown_2 = c.in_ok-leaf-2.ensures.shape ∙ ap₂ with_rule grown_1 c.word_arg-2.ensures.rule in
-    let grown_3 = c.in_ok-leaf-3.ensures.shape ∙ ap₂ with_rule grown_2 c.number_arg.ensures.rule in
-    let grown_4 = c.in_ok-leaf-4.ensures.shape ∙ ap₂ with_rule grown_3 c.number_arg-2.ensures.rule in
-    let grown_5 = c.in_ok-leaf-5.ensures.shape ∙ ap₂ with_rule grown_4 c.number_arg-3.ensures.rule in
-    IfOk-weaker c.with_arg-6.result _ _ (λ m h. h ∙ ap₂ with_rule grown_5 c.file_arg.ensures.rule) c.with_arg-6.ensures.shape
+    let app_1 : App = with_files (new_app (codes "format")) in
+    let is_1 = grown (Ok c.new_leaf.result) c.with_files-leaf.result with_files (new_app (codes "format")) c.with_files-leaf.ensures.app c.new_leaf.ensures.app in
+    let app_2 : App = with_shape app_1 in
+    let is_2 = grown c.with_files-leaf.result c.with_shape-leaf.result with_shape app_1 c.with_shape-leaf.ensures.app is_1 in
+    grown c.with_shape-leaf.result c.with_arg.result (λ a. with_rule a (file_rule (codes "closures"))) app_2 (by_rule c.with_shape-leaf.result c.with_arg.result _ (file_rule (codes "closures")) c.with_arg.ensures.shape c.file_arg.ensures.rule) is_2
+
+pub returns-clause-globals : goal.returns-clause-globals
+returns-clause-globals c = c.with_arg.ensures.globals

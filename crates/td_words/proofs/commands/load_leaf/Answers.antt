@@ -1,14 +1,47 @@
-use Rattle.std.proofs.Common.{ap₂, ◌∙◌}
-use Rattle.std.proofs.lemmas.Result.{IfOk-weaker}
-use Rattle.clap.specs.Words.{with_rule}
+use Rattle.std.specs.Prelude.{Ok, codes}
+use Rattle.clap.specs.Words.{App, new_app, with_rule}
+use Rattle.td_words.specs.Command.{file_rule, with_shape, word_rule}
+use Rattle.td_words.proofs.Leaves.{grown, by_rule}
 use Rattle.td_words.proofs.commands.load_leaf.Goals as goal
+
+pub with_arg-leaf-requires-clause-local : goal.with_arg-leaf-requires-clause-local
+with_arg-leaf-requires-clause-local c = c.word_arg.ensures.local
+
+pub with_arg-leaf-requires-clause-globals : goal.with_arg-leaf-requires-clause-globals
+with_arg-leaf-requires-clause-globals c = c.new_leaf.ensures.globals
+
+pub with_arg-leaf-requires-2-clause-local : goal.with_arg-leaf-requires-2-clause-local
+with_arg-leaf-requires-2-clause-local c = c.word_arg-2.ensures.local
+
+pub with_arg-leaf-requires-2-clause-globals : goal.with_arg-leaf-requires-2-clause-globals
+with_arg-leaf-requires-2-clause-globals c = c.with_arg-leaf.ensures.globals
+
+pub with_shape-leaf-requires : goal.with_shape-leaf-requires
+with_shape-leaf-requires c = record { globals = c.with_arg-leaf-2.ensures.globals }
+
+pub with_arg-leaf-requires-3-clause-local : goal.with_arg-leaf-requires-3-clause-local
+with_arg-leaf-requires-3-clause-local c = c.list_arg.ensures.local
+
+pub with_arg-leaf-requires-3-clause-globals : goal.with_arg-leaf-requires-3-clause-globals
+with_arg-leaf-requires-3-clause-globals c = c.with_shape-leaf.ensures.globals
+
+pub with_arg-requires-clause-local : goal.with_arg-requires-clause-local
+with_arg-requires-clause-local c = c.file_arg.ensures.local
+
+pub with_arg-requires-clause-globals : goal.with_arg-requires-clause-globals
+with_arg-requires-clause-globals c = c.with_arg-leaf-3.ensures.globals
 
 pub returns-clause-app : goal.returns-clause-app
 returns-clause-app c =
-    let grown_1 = c.in_ok-leaf.ensures.shape ∙ ap₂ with_rule c.new_leaf-leaf.ensures.app c.word_arg.ensures.rule in
-    let grown_2 = c.in_ok-leaf-2.ensures.shape ∙ ap₂ with_rule grown_1 c.word_arg-2.ensures.rule in
-    let grown_3 = c.in_ok-leaf-3.ensures.shape ∙ ap₂ with_rule grown_2 c.number_arg.ensures.rule in
-    let grown_4 = c.in_ok-leaf-4.ensures.shape ∙ ap₂ with_rule grown_3 c.number_arg-2.ensures.rule in
-    let grown_5 = c.in_ok-leaf-5.ensures.shape ∙ ap₂ with_rule grown_4 c.number_arg-3.ensures.rule in
-    let grown_6 = c.in_ok-leaf-6.ensures.shape ∙ ap₂ with_rule grown_5 c.list_arg.ensures.rule in
-    IfOk-weaker c.with_arg-7.result _ _ (λ m h. h ∙ ap₂ with_rule grown_6 c.file_arg.ensures.rule) c.with_arg-7.ensures.shape
+    let app_1 : App = with_rule (new_app (codes "load")) (word_rule (codes "new")) in
+    let is_1 = grown (Ok c.new_leaf.result) c.with_arg-leaf.result (λ a. with_rule a (word_rule (codes "new"))) (new_app (codes "load")) (by_rule (Ok c.new_leaf.result) c.with_arg-leaf.result _ (word_rule (codes "new")) c.with_arg-leaf.ensures.shape c.word_arg.ensures.rule) c.new_leaf.ensures.app in
+    let app_2 : App = with_rule app_1 (word_rule (codes "plan")) in
+    let is_2 = grown c.with_arg-leaf.result c.with_arg-leaf-2.result (λ a. with_rule a (word_rule (codes "plan"))) app_1 (by_rule c.with_arg-leaf.result c.with_arg-leaf-2.result _ (word_rule (codes "plan")) c.with_arg-leaf-2.ensures.shape c.word_arg-2.ensures.rule) is_1 in
+    let app_3 : App = with_shape app_2 in
+    let is_3 = grown c.with_arg-leaf-2.result c.with_shape-leaf.result with_shape app_2 c.with_shape-leaf.ensures.app is_2 in
+    let app_4 : App = with_rule app_3 (file_rule (codes "map")) in
+    let is_4 = grown c.with_shape-leaf.result c.with_arg-leaf-3.result (λ a. with_rule a (file_rule (codes "map"))) app_3 (by_rule c.with_shape-leaf.result c.with_arg-leaf-3.result _ (file_rule (codes "map")) c.with_arg-leaf-3.ensures.shape c.list_arg.ensures.rule) is_3 in
+    grown c.with_arg-leaf-3.result c.with_arg.result (λ a. with_rule a (file_rule (codes "closures"))) app_4 (by_rule c.with_arg-leaf-3.result c.with_arg.result _ (file_rule (codes "closures")) c.with_arg.ensures.shape c.file_arg.ensures.rule) is_4
+
+pub returns-clause-globals : goal.returns-clause-globals
+returns-clause-globals c = c.with_arg.ensures.globals

@@ -1,10 +1,34 @@
-use Rattle.std.proofs.Common.{ap₂, ◌∙◌}
-use Rattle.std.proofs.lemmas.Result.{IfOk-weaker}
-use Rattle.clap.specs.Words.{with_rule}
+use Rattle.std.specs.Prelude.{Ok, codes}
+use Rattle.clap.specs.Words.{App, new_app, with_rule}
+use Rattle.td_words.specs.Command.{file_rule, picks_rule, workers_rule}
+use Rattle.td_words.proofs.Leaves.{grown, by_rule}
 use Rattle.td_words.proofs.commands.sim_leaf.Goals as goal
+
+pub with_arg-leaf-requires-clause-local : goal.with_arg-leaf-requires-clause-local
+with_arg-leaf-requires-clause-local c = c.workers_arg.ensures.local
+
+pub with_arg-leaf-requires-clause-globals : goal.with_arg-leaf-requires-clause-globals
+with_arg-leaf-requires-clause-globals c = c.new_leaf.ensures.globals
+
+pub with_arg-leaf-requires-2-clause-local : goal.with_arg-leaf-requires-2-clause-local
+with_arg-leaf-requires-2-clause-local c = c.picks_arg.ensures.local
+
+pub with_arg-leaf-requires-2-clause-globals : goal.with_arg-leaf-requires-2-clause-globals
+with_arg-leaf-requires-2-clause-globals c = c.with_arg-leaf.ensures.globals
+
+pub with_arg-requires-clause-local : goal.with_arg-requires-clause-local
+with_arg-requires-clause-local c = c.file_arg.ensures.local
+
+pub with_arg-requires-clause-globals : goal.with_arg-requires-clause-globals
+with_arg-requires-clause-globals c = c.with_arg-leaf-2.ensures.globals
 
 pub returns-clause-app : goal.returns-clause-app
 returns-clause-app c =
-    let grown_1 = c.in_ok-leaf.ensures.shape ∙ ap₂ with_rule c.new_leaf-leaf.ensures.app c.workers_arg.ensures.rule in
-    let grown_2 = c.in_ok-leaf-2.ensures.shape ∙ ap₂ with_rule grown_1 c.picks_arg.ensures.rule in
-    IfOk-weaker c.with_arg-3.result _ _ (λ m h. h ∙ ap₂ with_rule grown_2 c.file_arg.ensures.rule) c.with_arg-3.ensures.shape
+    let app_1 : App = with_rule (new_app (codes "sim")) workers_rule in
+    let is_1 = grown (Ok c.new_leaf.result) c.with_arg-leaf.result (λ a. with_rule a workers_rule) (new_app (codes "sim")) (by_rule (Ok c.new_leaf.result) c.with_arg-leaf.result _ workers_rule c.with_arg-leaf.ensures.shape c.workers_arg.ensures.rule) c.new_leaf.ensures.app in
+    let app_2 : App = with_rule app_1 picks_rule in
+    let is_2 = grown c.with_arg-leaf.result c.with_arg-leaf-2.result (λ a. with_rule a picks_rule) app_1 (by_rule c.with_arg-leaf.result c.with_arg-leaf-2.result _ picks_rule c.with_arg-leaf-2.ensures.shape c.picks_arg.ensures.rule) is_1 in
+    grown c.with_arg-leaf-2.result c.with_arg.result (λ a. with_rule a (file_rule (codes "closures"))) app_2 (by_rule c.with_arg-leaf-2.result c.with_arg.result _ (file_rule (codes "closures")) c.with_arg.ensures.shape c.file_arg.ensures.rule) is_2
+
+pub returns-clause-globals : goal.returns-clause-globals
+returns-clause-globals c = c.with_arg.ensures.globals

@@ -1,21 +1,61 @@
-use Rattle.std.proofs.Common.{ap₂, ◌∙◌}
-use Rattle.std.proofs.lemmas.Result.{IfOk-weaker}
-use Rattle.clap.specs.Words.{with_rule}
+use Rattle.std.specs.Prelude.{Ok, codes}
+use Rattle.clap.specs.Words.{App, new_app, with_rule}
+use Rattle.td_words.specs.Command.{file_rule, option_rule, with_files, workers_rule}
+use Rattle.td_words.specs.Jobs.{with_stream_flags}
+use Rattle.td_words.proofs.Leaves.{grown, by_rule}
 use Rattle.td_words.proofs.commands.stream_leaf.Goals as goal
+
+pub with_files-leaf-requires : goal.with_files-leaf-requires
+with_files-leaf-requires c = record { globals = c.new_leaf.ensures.globals }
+
+pub with_arg-leaf-requires-clause-local : goal.with_arg-leaf-requires-clause-local
+with_arg-leaf-requires-clause-local c = c.workers_arg.ensures.local
+
+pub with_arg-leaf-requires-clause-globals : goal.with_arg-leaf-requires-clause-globals
+with_arg-leaf-requires-clause-globals c = c.with_files-leaf.ensures.globals
+
+pub with_arg-leaf-requires-2-clause-local : goal.with_arg-leaf-requires-2-clause-local
+with_arg-leaf-requires-2-clause-local c = c.option_arg.ensures.local
+
+pub with_arg-leaf-requires-2-clause-globals : goal.with_arg-leaf-requires-2-clause-globals
+with_arg-leaf-requires-2-clause-globals c = c.with_arg-leaf.ensures.globals
+
+pub with_arg-leaf-requires-3-clause-local : goal.with_arg-leaf-requires-3-clause-local
+with_arg-leaf-requires-3-clause-local c = c.option_arg-2.ensures.local
+
+pub with_arg-leaf-requires-3-clause-globals : goal.with_arg-leaf-requires-3-clause-globals
+with_arg-leaf-requires-3-clause-globals c = c.with_arg-leaf-2.ensures.globals
+
+pub with_stream_flags-leaf-requires : goal.with_stream_flags-leaf-requires
+with_stream_flags-leaf-requires c = record { globals = c.with_arg-leaf-3.ensures.globals }
+
+pub with_arg-leaf-requires-4-clause-local : goal.with_arg-leaf-requires-4-clause-local
+with_arg-leaf-requires-4-clause-local c = c.file_arg.ensures.local
+
+pub with_arg-leaf-requires-4-clause-globals : goal.with_arg-leaf-requires-4-clause-globals
+with_arg-leaf-requires-4-clause-globals c = c.with_stream_flags-leaf.ensures.globals
+
+pub with_arg-requires-clause-local : goal.with_arg-requires-clause-local
+with_arg-requires-clause-local c = c.folder_arg.ensures.local
+
+pub with_arg-requires-clause-globals : goal.with_arg-requires-clause-globals
+with_arg-requires-clause-globals c = c.with_arg-leaf-4.ensures.globals
 
 pub returns-clause-app : goal.returns-clause-app
 returns-clause-app c =
-    let grown_1 = c.in_ok-leaf.ensures.shape ∙ ap₂ with_rule c.new_leaf-leaf.ensures.app c.word_arg.ensures.rule in
-    let grown_2 = c.in_ok-leaf-2.ensures.shape ∙ ap₂ with_rule grown_1 c.word_arg-2.ensures.rule in
-    let grown_3 = c.in_ok-leaf-3.ensures.shape ∙ ap₂ with_rule grown_2 c.workers_arg.ensures.rule in
-    let grown_4 = c.in_ok-leaf-4.ensures.shape ∙ ap₂ with_rule grown_3 c.option_arg.ensures.rule in
-    let grown_5 = c.in_ok-leaf-5.ensures.shape ∙ ap₂ with_rule grown_4 c.option_arg-2.ensures.rule in
-    let grown_6 = c.in_ok-leaf-6.ensures.shape ∙ ap₂ with_rule grown_5 c.flag_arg.ensures.rule in
-    let grown_7 = c.in_ok-leaf-7.ensures.shape ∙ ap₂ with_rule grown_6 c.flag_arg-2.ensures.rule in
-    let grown_8 = c.in_ok-leaf-8.ensures.shape ∙ ap₂ with_rule grown_7 c.flag_arg-3.ensures.rule in
-    let grown_9 = c.in_ok-leaf-9.ensures.shape ∙ ap₂ with_rule grown_8 c.flag_arg-4.ensures.rule in
-    let grown_10 = c.in_ok-leaf-10.ensures.shape ∙ ap₂ with_rule grown_9 c.flag_arg-5.ensures.rule in
-    let grown_11 = c.in_ok-leaf-11.ensures.shape ∙ ap₂ with_rule grown_10 c.flag_arg-6.ensures.rule in
-    let grown_12 = c.in_ok-leaf-12.ensures.shape ∙ ap₂ with_rule grown_11 c.flag_arg-7.ensures.rule in
-    let grown_13 = c.in_ok-leaf-13.ensures.shape ∙ ap₂ with_rule grown_12 c.file_arg.ensures.rule in
-    IfOk-weaker c.with_arg-14.result _ _ (λ m h. h ∙ ap₂ with_rule grown_13 c.folder_arg.ensures.rule) c.with_arg-14.ensures.shape
+    let app_1 : App = with_files (new_app (codes "stream")) in
+    let is_1 = grown (Ok c.new_leaf.result) c.with_files-leaf.result with_files (new_app (codes "stream")) c.with_files-leaf.ensures.app c.new_leaf.ensures.app in
+    let app_2 : App = with_rule app_1 workers_rule in
+    let is_2 = grown c.with_files-leaf.result c.with_arg-leaf.result (λ a. with_rule a workers_rule) app_1 (by_rule c.with_files-leaf.result c.with_arg-leaf.result _ workers_rule c.with_arg-leaf.ensures.shape c.workers_arg.ensures.rule) is_1 in
+    let app_3 : App = with_rule app_2 (option_rule (codes "cut-every") 1 65536) in
+    let is_3 = grown c.with_arg-leaf.result c.with_arg-leaf-2.result (λ a. with_rule a (option_rule (codes "cut-every") 1 65536)) app_2 (by_rule c.with_arg-leaf.result c.with_arg-leaf-2.result _ (option_rule (codes "cut-every") 1 65536) c.with_arg-leaf-2.ensures.shape c.option_arg.ensures.rule) is_2 in
+    let app_4 : App = with_rule app_3 (option_rule (codes "most") 1 9223372036854775807) in
+    let is_4 = grown c.with_arg-leaf-2.result c.with_arg-leaf-3.result (λ a. with_rule a (option_rule (codes "most") 1 9223372036854775807)) app_3 (by_rule c.with_arg-leaf-2.result c.with_arg-leaf-3.result _ (option_rule (codes "most") 1 9223372036854775807) c.with_arg-leaf-3.ensures.shape c.option_arg-2.ensures.rule) is_3 in
+    let app_5 : App = with_stream_flags app_4 in
+    let is_5 = grown c.with_arg-leaf-3.result c.with_stream_flags-leaf.result with_stream_flags app_4 c.with_stream_flags-leaf.ensures.app is_4 in
+    let app_6 : App = with_rule app_5 (file_rule (codes "status")) in
+    let is_6 = grown c.with_stream_flags-leaf.result c.with_arg-leaf-4.result (λ a. with_rule a (file_rule (codes "status"))) app_5 (by_rule c.with_stream_flags-leaf.result c.with_arg-leaf-4.result _ (file_rule (codes "status")) c.with_arg-leaf-4.ensures.shape c.file_arg.ensures.rule) is_5 in
+    grown c.with_arg-leaf-4.result c.with_arg.result (λ a. with_rule a (file_rule (codes "copies"))) app_6 (by_rule c.with_arg-leaf-4.result c.with_arg.result _ (file_rule (codes "copies")) c.with_arg.ensures.shape c.folder_arg.ensures.rule) is_6
+
+pub returns-clause-globals : goal.returns-clause-globals
+returns-clause-globals c = c.with_arg.ensures.globals
