@@ -107,6 +107,13 @@ fn is_fold(kind: ClosureKind) -> bool
     }
 }
 
+/// The closure goes, and this is why. That it goes is proved here alone, and not where each line is refused.
+fn refuse(_closure: Closure, wrong: Wrong) -> Result<Closure, Wrong>
+    ensures { result ≡ Err wrong }
+{
+    Err(wrong)
+}
+
 /// With these registers. Refusal: `Memory`.
 fn with_lets(closure: Closure, lets: Vec<Assignment>) -> Result<Closure, Wrong>
     ensures ok { IfOk result (λ c. said_by c ≡ with_lets (said_by closure) (map assigned_by lets.items)) }
@@ -114,8 +121,10 @@ fn with_lets(closure: Closure, lets: Vec<Assignment>) -> Result<Closure, Wrong>
 {
     let mut closure = closure;
     let mut lets = lets;
-    closure.lets.append(&mut lets)?;
-    Ok(closure)
+    match closure.lets.append(&mut lets) {
+        Ok(()) => Ok(closure),
+        Err(_) => refuse(closure, Wrong::Memory),
+    }
 }
 
 /// With these changes. Refusals: `Syntax`, in a map; `Memory`.
@@ -123,12 +132,14 @@ fn with_item(closure: Closure, changes: Vec<Assignment>) -> Result<Closure, Wron
     ensures { Answers said_by result (with_item (said_by closure) (map assigned_by changes.items)) }
 {
     if !has_items(closure.kind) {
-        return Err(Wrong::Syntax);
+        return refuse(closure, Wrong::Syntax);
     }
     let mut closure = closure;
     let mut changes = changes;
-    closure.changes.append(&mut changes)?;
-    Ok(closure)
+    match closure.changes.append(&mut changes) {
+        Ok(()) => Ok(closure),
+        Err(_) => refuse(closure, Wrong::Memory),
+    }
 }
 
 /// With a record at each item. Refusals: `Syntax`, in a map; `Memory`.
@@ -136,11 +147,13 @@ fn with_each(closure: Closure, pair: Pair) -> Result<Closure, Wrong>
     ensures { Answers said_by result (with_each (said_by closure) (paired_by pair)) }
 {
     if !has_items(closure.kind) {
-        return Err(Wrong::Syntax);
+        return refuse(closure, Wrong::Syntax);
     }
     let mut closure = closure;
-    closure.each.push(pair)?;
-    Ok(closure)
+    match closure.each.push(pair) {
+        Ok(()) => Ok(closure),
+        Err(_) => refuse(closure, Wrong::Memory),
+    }
 }
 
 /// With a record at the end. Refusals: `TooMany`, for the ninth; `Memory`.
@@ -148,11 +161,13 @@ fn with_send(closure: Closure, pair: Pair) -> Result<Closure, Wrong>
     ensures { Answers said_by result (with_send (said_by closure) (paired_by pair)) }
 {
     if closure.sends.len() >= SENDS {
-        return Err(Wrong::TooMany);
+        return refuse(closure, Wrong::TooMany);
     }
     let mut closure = closure;
-    closure.sends.push(pair)?;
-    Ok(closure)
+    match closure.sends.push(pair) {
+        Ok(()) => Ok(closure),
+        Err(_) => refuse(closure, Wrong::Memory),
+    }
 }
 
 /// With a state at the end. Refusals: `Syntax`, where it is no fold; `TooMany`, for the second.
@@ -160,10 +175,10 @@ fn with_keep(closure: Closure, kept: bool, pair: Pair) -> Result<Closure, Wrong>
     ensures { Answers said_by result (with_keep (said_by closure) kept (paired_by pair)) }
 {
     if !is_fold(closure.kind) {
-        return Err(Wrong::Syntax);
+        return refuse(closure, Wrong::Syntax);
     }
     if kept {
-        return Err(Wrong::TooMany);
+        return refuse(closure, Wrong::TooMany);
     }
     let mut closure = closure;
     closure.keep = pair;
@@ -191,7 +206,7 @@ fn with_part(closure: Closure, kept: bool, line: WrittenLine) -> Result<Closure,
     ensures { Answers said_by result (with_part (said_by closure) kept (line_by line)) }
 {
     match line {
-        WrittenLine::Head(_, _) => Err(Wrong::Syntax),
+        WrittenLine::Head(_, _) => refuse(closure, Wrong::Syntax),
         WrittenLine::Let(lets) => with_lets(closure, lets),
         WrittenLine::Item(changes) => with_item(closure, changes),
         WrittenLine::Each(pair) => with_each(closure, pair),

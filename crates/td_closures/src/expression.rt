@@ -1,5 +1,5 @@
 //! Expressions are read token by token.
-ghost use Rattle.std.specs.Prelude.{◌≡◌, ◌⊎◌, List, IfOk, IfErr};
+ghost use Rattle.std.specs.Prelude.{◌≡◌, ◌⊎◌, List, IfOk, IfErr, Err};
 ghost use Rattle.td_closures.specs.Phrase.{Phrase, IsRead, tree_of};
 ghost use Rattle.td_closures.specs.Machine.{place_checked, deeper_checked, placed, pushed, opened, minus, prefixed, begun, gone_on, with_infix, with_then, with_else, with_close, with_comma, with_end, with_token, signed, test, paren, called, there, wanted, left, whole, run};
 ghost use Rattle.td_closures.specs.Context.{around_of, Steps, Fronts, reading_of};
@@ -49,36 +49,58 @@ fn check_deeper(around: &Context, level: u8) -> Result<(), Wrong>
     }
 }
 
+/// What stands before goes, and this is why. That it goes is proved here alone, and not where each step is refused.
+fn refuse(_around: Context, wrong: Wrong) -> Result<Progress, Wrong>
+    ensures { result ≡ Err wrong }
+{
+    Err(wrong)
+}
+
+/// The same with an expression.
+fn refuse_both(_around: Context, _e: Expression, wrong: Wrong) -> Result<Progress, Wrong>
+    ensures { result ≡ Err wrong }
+{
+    Err(wrong)
+}
+
 /// An operand.
 fn operand(around: Context, e: Expression) -> Result<Progress, Wrong>
     ensures { Steps result (placed 8 (around_of around) (there (around_of around) (tree_of e))) }
 {
-    check_place(&around, 8)?;
-    Ok(Progress::There(around, e))
+    match check_place(&around, 8) {
+        Ok(()) => Ok(Progress::There(around, e)),
+        Err(wrong) => refuse_both(around, e, wrong),
+    }
 }
 
 /// A sign. Refusal: `Memory`.
 fn sign(alloc: Global, around: Context, level: u8, sign: Sign) -> Result<Progress, Wrong>
     ensures { Steps result (pushed level (around_of around) (signed sign (around_of around))) }
 {
-    check_deeper(&around, level)?;
-    Ok(Progress::Wanted(Context::Signed(sign, Box::new(alloc, around)?)))
+    match check_deeper(&around, level) {
+        Ok(()) => Ok(Progress::Wanted(Context::Signed(sign, Box::new(alloc, around)?))),
+        Err(wrong) => refuse(around, wrong),
+    }
 }
 
 /// `if`. It is the loosest form, and may not stand behind an operator. So no `else` reaches further than it seems to.
 fn begin_test(alloc: Global, around: Context) -> Result<Progress, Wrong>
     ensures { Steps result (pushed 0 (around_of around) (test (around_of around))) }
 {
-    check_deeper(&around, 0)?;
-    Ok(Progress::Wanted(Context::Test(Box::new(alloc, around)?)))
+    match check_deeper(&around, 0) {
+        Ok(()) => Ok(Progress::Wanted(Context::Test(Box::new(alloc, around)?))),
+        Err(wrong) => refuse(around, wrong),
+    }
 }
 
 /// `min` or `max`.
 fn begin_call(alloc: Global, around: Context, operator: Operator) -> Result<Progress, Wrong>
     ensures { Steps result (pushed 8 (around_of around) (called operator (around_of around))) }
 {
-    check_deeper(&around, 8)?;
-    Ok(Progress::Wanted(Context::Called(operator, Box::new(alloc, around)?)))
+    match check_deeper(&around, 8) {
+        Ok(()) => Ok(Progress::Wanted(Context::Called(operator, Box::new(alloc, around)?))),
+        Err(wrong) => refuse(around, wrong),
+    }
 }
 
 /// An opening parenthesis.
@@ -87,10 +109,17 @@ fn open(alloc: Global, around: Context) -> Result<Progress, Wrong>
 {
     match around {
         Context::Called(operator, around) => Ok(Progress::Wanted(Context::First(operator, around))),
-        around => {
-            check_deeper(&around, 8)?;
-            Ok(Progress::Wanted(Context::Paren(Box::new(alloc, around)?)))
-        }
+        around => begin_parenthesis(alloc, around),
+    }
+}
+
+/// A parenthesis that is not that of `min` or `max`.
+fn begin_parenthesis(alloc: Global, around: Context) -> Result<Progress, Wrong>
+    ensures { Steps result (pushed 8 (around_of around) (paren (around_of around))) }
+{
+    match check_deeper(&around, 8) {
+        Ok(()) => Ok(Progress::Wanted(Context::Paren(Box::new(alloc, around)?))),
+        Err(wrong) => refuse(around, wrong),
     }
 }
 
@@ -100,7 +129,7 @@ fn minus(alloc: Global, around: Context, operator: Operator) -> Result<Progress,
 {
     match operator {
         Operator::Minus => sign(alloc, around, 7, Sign::Negative),
-        _ => Err(Wrong::Syntax),
+        _ => refuse(around, Wrong::Syntax),
     }
 }
 
@@ -109,7 +138,7 @@ fn prefix(alloc: Global, around: Context, s: Sign) -> Result<Progress, Wrong>
     ensures { Steps result (prefixed s (around_of around)) }
 {
     match s {
-        Sign::Negative => Err(Wrong::Syntax),
+        Sign::Negative => refuse(around, Wrong::Syntax),
         Sign::Not | Sign::Absolute => sign(alloc, around, sign_level(s), s),
     }
 }
@@ -121,13 +150,13 @@ fn begin(alloc: Global, around: Context, token: Token) -> Result<Progress, Wrong
     match token {
         Token::Number(number) => operand(around, Expression::Number(number)),
         Token::Named(name) => operand(around, Expression::Named(name)),
-        Token::New(_) | Token::Unknown => Err(Wrong::Name),
+        Token::New(_) | Token::Unknown => refuse(around, Wrong::Name),
         Token::Infix(operator) => minus(alloc, around, operator),
         Token::Prefix(s) => prefix(alloc, around, s),
         Token::Call(operator) => begin_call(alloc, around, operator),
         Token::If => begin_test(alloc, around),
         Token::Open => open(alloc, around),
-        _ => Err(Wrong::Syntax),
+        _ => refuse(around, Wrong::Syntax),
     }
 }
 
@@ -142,10 +171,12 @@ fn infix(
 {
     let level = operator_level(operator);
     if level > 8 {
-        return Err(Wrong::Syntax);
+        return refuse_both(around, e, Wrong::Syntax);
     }
-    check_deeper(&around, level)?;
-    Ok(Progress::Wanted(Context::Left(operator, e, Box::new(alloc, around)?)))
+    match check_deeper(&around, level) {
+        Ok(()) => Ok(Progress::Wanted(Context::Left(operator, e, Box::new(alloc, around)?))),
+        Err(wrong) => refuse_both(around, e, wrong),
+    }
 }
 
 /// `then`.
@@ -154,7 +185,7 @@ fn then(around: Context, e: Expression) -> Result<Progress, Wrong>
 {
     match around {
         Context::Test(around) => Ok(Progress::Wanted(Context::Chosen(e, around))),
-        _ => Err(Wrong::Syntax),
+        around => refuse_both(around, e, Wrong::Syntax),
     }
 }
 
@@ -166,7 +197,7 @@ fn otherwise(around: Context, e: Expression) -> Result<Progress, Wrong>
         Context::Chosen(test, around) => {
             Ok(Progress::Wanted(Context::Otherwise(test, e, around)))
         }
-        _ => Err(Wrong::Syntax),
+        around => refuse_both(around, e, Wrong::Syntax),
     }
 }
 
@@ -180,7 +211,7 @@ fn close(alloc: Global, around: Context, e: Expression) -> Result<Progress, Wron
             let e = joined(alloc, operator, before, e)?;
             Ok(Progress::There(Box::into_inner(around), e))
         }
-        _ => Err(Wrong::Syntax),
+        around => refuse_both(around, e, Wrong::Syntax),
     }
 }
 
@@ -193,7 +224,7 @@ fn comma(around: Context, e: Expression) -> Result<Progress, Wrong>
             Ok(Progress::Wanted(Context::Second(operator, e, around)))
         }
         Context::Whole => Ok(Progress::Read(e)),
-        _ => Err(Wrong::Syntax),
+        around => refuse_both(around, e, Wrong::Syntax),
     }
 }
 
@@ -203,7 +234,7 @@ fn end(around: Context, e: Expression) -> Result<Progress, Wrong>
 {
     match around {
         Context::Whole => Ok(Progress::Read(e)),
-        _ => Err(Wrong::Syntax),
+        around => refuse_both(around, e, Wrong::Syntax),
     }
 }
 
@@ -223,7 +254,7 @@ fn go_on(alloc: Global, around: Context, e: Expression, token: Token) -> Result<
         Token::Close => close(alloc, around, e),
         Token::Comma => comma(around, e),
         Token::When | Token::End => end(around, e),
-        _ => Err(Wrong::Syntax),
+        _ => refuse_both(around, e, Wrong::Syntax),
     }
 }
 
