@@ -64,6 +64,7 @@ class Awaited(NamedTuple):
     fed: str
     shape: tuple = (16, 4096, 20_480)
     epochs: int = 8
+    workers: int = 1
 
 
 class Fed(NamedTuple):
@@ -102,6 +103,8 @@ CASES = {
     "td run, 8 and 60 readers of an input": Case(Piped("run", readers(8)), Piped("run", readers(60)), 60 / 8 * 1.5),
     "td stream, 10 and 20,000 kept keys": Case(Awaited(keys(10, RECORDS) + "cut\n"), Awaited(keys(20_000, RECORDS) + "cut\n"), 1.5),
     "td stream, 10 and 2,000 epochs since the last cut": Case(Awaited(10 * EPOCH), Awaited(2_000 * EPOCH), 1.5),
+    "td stream, three workers, 10 and 20,000 kept keys": Case(Awaited(keys(10, RECORDS) + "cut\n", workers=3), Awaited(keys(20_000, RECORDS) + "cut\n", workers=3), 1.5),
+    "td stream, three workers, 10 and 2,000 epochs since the last cut": Case(Awaited(10 * EPOCH, workers=3), Awaited(2_000 * EPOCH, workers=3), 1.5),
 }
 # Those that are not counted yet, one line each.
 NOT_YET_HELD = set()
@@ -204,7 +207,7 @@ def command_of(td, work, count, folder):
     subprocess.run([td, "feed", *disk], input=work.fed, text=True, stdout=subprocess.DEVNULL, check=True)
     if isinstance(work, Fed):
         return [td, "feed", *disk], give(EPOCH * count)
-    return [td, "stream", *disk], wait_for_each(count)
+    return [td, "stream", *disk, "--workers", str(work.workers)], wait_for_each(count)
 
 
 def instructions(counter, td, work, count):

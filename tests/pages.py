@@ -31,7 +31,7 @@ WALKS = {"docs/CLOSURES.md": "example_closures", "docs/SERVICE.md": "example_ser
 MOST_WORDS = 3_000
 WORD = re.compile(r"[A-Za-z0-9']+(?:[-_.:][A-Za-z0-9]+)*")
 # A drawing in a page begins so.
-DRAWN = ("producer ──", "(thread)", "release_in     publishes", "▼", "pool: the hall", "▲", "workers (a thread")
+DRAWN = ("producer ──", "(thread)", "release       publishes", "▼", "pool: the hall", "▲", "workers (a thread")
 
 
 # What pages cite of Rust and its library, and what stands for any name.

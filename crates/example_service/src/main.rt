@@ -13,6 +13,9 @@ use crate::visits::Visits;
 use std::fs::File;
 use std::io;
 use std::rt::Files;
+use std::sync::Wait;
+use std::thread::Threads;
+use std::time::Clock;
 use td_calls::Closures;
 use td_disk::FileDisk;
 use td_head::Shape;
@@ -26,25 +29,42 @@ const PLAN: &str = "0 input\n1 fold 1 0\n2 output 1\n";
 const DISK: &str = "service.disk";
 
 fn main(rt: HostRuntime) -> anyhow::Result<()> {
-    let alloc = rt.alloc();
-    let plan = Plan::read(alloc, PLAN)?;
-    Visits.fits(&plan)?;
+    let plan = Plan::read(rt.alloc(), PLAN)?;
+    serve_plan(&rt, &plan)
+}
+
+/// Starts the service for a plan, with an empty list of outputs. What has an owner here is lent to what may be refused: so no refusal
+/// has to drop it, and the proof has one exit to drop it at.
+fn serve_plan<R: Files<File = File> + Print + Threads + Wait + Clock + AllocGlobal + Sync>(
+    rt: &R,
+    plan: &Plan,
+) -> anyhow::Result<()> {
+    Visits.fits(plan)?;
     let Some(shape) = Shape::new(8, 128, 16) else {
         anyhow::bail!("no such shape");
     };
-    let mut outs = Vec::new(alloc);
-    let _streams = hold_streams(&rt)?;
+    let _streams = hold_streams(rt)?;
+    let mut outs = Vec::new(rt.alloc());
+    start_twice(rt, plan, shape, &mut outs)
+}
 
+/// Starts the service on a new disk, and again on what it left there.
+fn start_twice<R: Files<File = File> + Print + Threads + Wait + Clock + AllocGlobal + Sync>(
+    rt: &R,
+    plan: &Plan,
+    shape: Shape,
+    outs: &mut Vec<EpochOut>,
+) -> anyhow::Result<()> {
     // The first start makes the disk anew.
-    let disk = FileDisk::create(&rt, DISK, shape.bytes())?;
-    let keeper = VisitsKeeper::format(alloc, disk, &plan, shape).map_err(|(refusal, _)| refusal)?;
-    run(&rt, keeper, &plan, 120, &mut outs)?;
+    let disk = FileDisk::create(rt, DISK, shape.bytes())?;
+    let made = VisitsKeeper::format(rt.alloc(), disk, plan, shape);
+    run(rt, made.map_err(|(refusal, _)| refusal)?, plan, 120, outs)?;
 
     // The second finds it as the first left it.
-    let disk = FileDisk::open(&rt, DISK)?;
-    let keeper = VisitsKeeper::recover(alloc, disk, &plan).map_err(|(refusal, _)| refusal)?;
-    run(&rt, keeper, &plan, 200, &mut outs)?;
-    tell_last(&rt, &outs)
+    let disk = FileDisk::open(rt, DISK)?;
+    let found = VisitsKeeper::recover(rt.alloc(), disk, plan);
+    run(rt, found.map_err(|(refusal, _)| refusal)?, plan, 200, outs)?;
+    tell_last(rt, outs)
 }
 
 /// Takes the numbers of standard streams that are closed: a file gets the lowest that is free, and what is printed would go to the disk.

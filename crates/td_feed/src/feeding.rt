@@ -28,6 +28,7 @@ use td_disk::Disk;
 use td_keeper::Keeper;
 use td_keeper::laws::each_is_kept;
 use td_plan::Plan;
+use td_pool::NewCourse;
 use td_store::standing::laws;
 
 /// What `Session::feed` does.
@@ -105,11 +106,12 @@ fn obey<
     match prepared(alloc, &keeper, plan, workers, reader) {
         Ok((orders, hall)) => {
             let blank = Blank::new(u64::from(hall.workers()));
+            let course = NewCourse::new();
             let orders = Listed(VecDeque::from(orders));
-            let feeding = Feeding::new(&keeper, Pace::AtEnd);
+            let feeding = Feeding::new(Pace::AtEnd);
             let mut host = NoHost::new();
             obey_by_workers::<_, _, _, _, _, _, Brand, _>(
-                rt, alloc, keeper, hall, blank, feeding, orders, writer, &mut host, calls,
+                rt, alloc, keeper, hall, blank, course, feeding, orders, writer, &mut host, calls,
             )
         }
         Err(fault) => (keeper, Err(fault)),

@@ -13,7 +13,7 @@ use crate::asking::Asking;
 use crate::at_once::{Asked, Room};
 use crate::host::Host;
 use crate::order::Order;
-use crate::under_way::{Feeding, open_epochs};
+use crate::under_way::{Feeding, open_epochs, settle};
 use crate::voice::Voice;
 use std::alloc::Global;
 use std::sync::Wait;
@@ -60,7 +60,7 @@ pub(crate) fn obey_each<D: Disk, S: Asking, W: Voice, H: Host, L: Law, R: Wait, 
         let most = feeding.pace.epochs_at_once(keeper);
         let room = Room::of(keeper, most);
         let Some(asked) = orders.next_asked(alloc, &room)? else {
-            return feeding.settle(rt, alloc, engine, writer);
+            return settle(rt, alloc, engine, writer);
         };
         let next = seen_with(seen, &asked, engine.keeper())?;
         seen = next;

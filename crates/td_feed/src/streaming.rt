@@ -31,6 +31,7 @@ use td_disk::Disk;
 use td_keeper::Keeper;
 use td_keeper::laws::{driven_keeps_to_its_base, each_is_kept, each_keeps_to_its_base};
 use td_plan::Plan;
+use td_pool::NewCourse;
 use td_store::standing::laws;
 use td_watch::Writer;
 
@@ -176,14 +177,11 @@ fn obey<
     ensures seen { IfSome (I.remaining reader) (λ input. TellsSeen result.1 (first_seen options.hold keeper.standing.epoch)
         (placed options.refuse (last_epoch keeper.standing) (last_request keeper.standing) (script_by options keeper.head.shape.m plan.now input)).orders (H.seen host.old) (H.seen host.new)) }
 {
-    let feeding = Feeding::new(
-        &keeper,
-        Pace::Live {
-            every: options.cut_every,
-            most: options.most,
-            hold: options.hold,
-        },
-    );
+    let feeding = Feeding::new(Pace::Live {
+        every: options.cut_every,
+        most: options.most,
+        hold: options.hold,
+    });
     let limit = limit_of(options.refuse, &keeper);
     let orders = Streamed::new(
         alloc,
@@ -201,8 +199,9 @@ fn obey<
     match open(alloc, &keeper, plan, workers) {
         Ok(hall) => {
             let blank = Blank::new(u64::from(hall.workers()));
+            let course = NewCourse::new();
             obey_by_workers::<_, _, _, _, _, _, Brand, _>(
-                rt, alloc, keeper, hall, blank, feeding, orders, writer, host, calls,
+                rt, alloc, keeper, hall, blank, course, feeding, orders, writer, host, calls,
             )
         }
         Err(fault) => (keeper, Err(fault)),

@@ -30,11 +30,10 @@ use td_calls::Law;
 use td_console::{Fault, Sink, write_answer};
 use td_core::{Hall, HallError};
 use td_disk::Disk;
-use td_journal::Submitted;
 use td_keeper::laws::each_at_work_is_kept;
 use td_keeper::{Command, Keeper, Obey};
 use td_plan::Plan;
-use td_stamp::{Batch, EPOCHS_END, EpochOut};
+use td_stamp::{EPOCHS_END, EpochOut};
 use td_store::standing::KeeperError;
 
 /// Output lines are written where they have so many bytes.
@@ -89,14 +88,10 @@ impl Pace {
     }
 }
 
-/// How much the pool's hall has since its base, and how much the keeper has beyond that, each epoch and each record counted as
-/// one. A release compares all that the hall has, so it waits until as much is new. And how many cells the last cut freed, which
-/// may be open yet. Released one by one, the epochs between two cuts would be compared once for each of them.
+/// At which pace a feed goes, and how many cells the last cut freed, which may be open yet.
 #[derive(Drop)]
 pub(crate) struct Feeding {
     pub(crate) pace: Pace,
-    held: u64,
-    waiting: u64,
     freed: u64,
 }
 
@@ -130,16 +125,11 @@ pub(crate) fn is_at_last_number<D: Disk, L: Law>(keeper: &Keeper<D, L>) -> bool
 }
 
 impl Feeding {
-    /// Before anything was released into a hall at a keeper's checkpoint.
-    pub(crate) fn new<D: Disk, L: Law>(keeper: &Keeper<D, L>, pace: Pace) -> Feeding
+    /// Before the first order.
+    pub(crate) fn new(pace: Pace) -> Feeding
         ensures { result.pace ≡ pace }
     {
-        Feeding {
-            pace,
-            held: 0,
-            waiting: keeper.pending(),
-            freed: 0,
-        }
+        Feeding { pace, freed: 0 }
     }
 
     /// Does what is asked for. Refusals: those of the keeper and of the writer.
@@ -162,30 +152,25 @@ impl Feeding {
     {
         match asked {
             Asked::Epochs(group) => {
-                let weight = weight_of_all(group.as_slice());
                 let command = Command::SubmitAll(group);
-                self.submit(rt, alloc, engine, command, weight, writer)
+                self.submit(rt, alloc, engine, command, writer)
             }
             Asked::One(order) => match order {
                 Order::Submit(batch) => {
-                    let weight = weight(&batch);
                     let command = Command::Submit(batch);
-                    self.submit(rt, alloc, engine, command, weight, writer)
+                    self.submit(rt, alloc, engine, command, writer)
                 }
                 Order::SubmitAs(request, batch) => {
-                    let weight = weight(&batch);
                     let command = Command::SubmitAs(request, batch);
-                    self.submit(rt, alloc, engine, command, weight, writer)
+                    self.submit(rt, alloc, engine, command, writer)
                 }
                 Order::SubmitAt(_, 0, batch) => {
-                    let weight = weight(&batch);
                     let command = Command::Submit(batch);
-                    self.submit(rt, alloc, engine, command, weight, writer)
+                    self.submit(rt, alloc, engine, command, writer)
                 }
                 Order::SubmitAt(_, request, batch) => {
-                    let weight = weight(&batch);
                     let command = Command::SubmitAs(request, batch);
-                    self.submit(rt, alloc, engine, command, weight, writer)
+                    self.submit(rt, alloc, engine, command, writer)
                 }
                 Order::Cut => self.cut(rt, alloc, engine, seen, writer),
                 Order::Say(note) => write_note(alloc, &note, writer),
@@ -198,15 +183,14 @@ impl Feeding {
         }
     }
 
-    /// Tells the keeper a command that submits batches of this weight, and writes its lines, `ack E` or `again Q`; and releases what
-    /// the hall lacks, where they are new and it is time.
+    /// Tells the keeper a command that submits batches, and writes its lines, `ack E` or `again Q`; and releases what the hall lacks, where
+    /// they are new. At a live pace outputs are due at once, and all is released then.
     fn submit<D: Disk, L: Law, R, E: Obey<D, L, R>, W: Voice>(
         &mut self,
         rt: &R,
         alloc: Global,
         engine: &mut E,
         command: Command,
-        weight: u64,
         writer: &mut W,
     ) -> Result<(), Fault>
         requires whole { (E.keeping engine.old).broken ≡ false }
@@ -220,66 +204,18 @@ impl Feeding {
     {
         let before = engine.keeper().last_epoch();
         tell_aloud(rt, alloc, engine, command, writer)?;
-        if engine.keeper().last_epoch() == before {
+        if self.is_live() || engine.keeper().last_epoch() == before {
             return Ok(());
         }
-        self.waiting = self.waiting.saturating_add(weight);
-        if !self.is_release_due() {
-            return Ok(());
-        }
-        self.release(rt, engine)
+        release(rt, engine)
     }
 
-    /// Whether it is time to release what was submitted, before outputs are due: at a live pace they are due at once, and all is released
-    /// then.
-    fn is_release_due(&self) -> bool {
+    /// Whether outputs are due after each order.
+    fn is_live(&self) -> bool {
         match self.pace {
-            Pace::AtEnd => self.held <= self.waiting,
-            Pace::Live { .. } => false,
+            Pace::AtEnd => false,
+            Pace::Live { .. } => true,
         }
-    }
-
-    /// Releases the epochs that the hall lacks.
-    fn release<D: Disk, L: Law, R, E: Obey<D, L, R>>(
-        &mut self,
-        rt: &R,
-        engine: &mut E,
-    ) -> Result<(), Fault>
-        requires whole { (E.keeping engine.old).broken ≡ false }
-        ensures disk { KeepsDisk D.view result (E.keeping engine.old).device (E.keeping engine.new).device }
-
-        // Nothing is written, whatever the writer is.
-        ensures fed { (marks : Bool) (held : Option (List ℕ)) → Feeds D.view L.answers marks result held held (E.keeping engine.old) (E.keeping engine.new) [] }
-        ensures rests { Carries L.answers (E.keeping engine.old) (E.keeping engine.new) [] }
-        ensures own { E.alone ≡ true → OnOk result ((E.hall engine.new).batches ≡ since_base (E.keeping engine.new)) }
-        ensures base { SameBase (E.keeping engine.old) (E.keeping engine.new) }
-    {
-        tell(rt, engine, Command::Release)?;
-        self.held = self.held.saturating_add(self.waiting);
-        self.waiting = 0;
-        Ok(())
-    }
-
-    /// Lets all epochs pass, and writes the output lines that were not written before. What the disk has stays.
-    pub(crate) fn settle<D: Disk, L: Law, R, E: Obey<D, L, R>, W: Voice>(
-        &mut self,
-        rt: &R,
-        alloc: Global,
-        engine: &mut E,
-        writer: &mut W,
-    ) -> Result<(), Fault>
-        requires whole { (E.keeping engine.old).broken ≡ false }
-        ensures disk { KeepsDisk D.view result (E.keeping engine.old).device (E.keeping engine.new).device }
-        ensures fed { Feeds D.view L.answers W.marks result (W.contents writer.old) (W.contents writer.new) (E.keeping engine.old) (E.keeping engine.new) [] }
-        ensures rests { Carries L.answers (E.keeping engine.old) (E.keeping engine.new) [] }
-        ensures none_left { OnOk result ((E.keeping engine.new).queue ≡ []) }
-        ensures all_out { E.alone ≡ true → OnOk result (IsAllOut (E.keeping engine.new)) }
-        ensures base { SameBase (E.keeping engine.old) (E.keeping engine.new) }
-    {
-        self.release(rt, engine)?;
-        tell(rt, engine, Command::Settle)?;
-        tell(rt, engine, Command::Collect)?;
-        write_outs(alloc, engine, writer)
     }
 
     /// Does what is due before the first order, at this pace: releases the epochs that the hall lacks, or writes their outputs too.
@@ -297,7 +233,7 @@ impl Feeding {
         ensures held { KeepsTo seen (E.keeping engine.old) (E.keeping engine.new) }
     {
         match self.pace {
-            Pace::AtEnd => self.release(rt, engine),
+            Pace::AtEnd => release(rt, engine),
             Pace::Live { .. } => self.keep_pace(rt, alloc, engine, seen, writer),
         }
     }
@@ -367,7 +303,7 @@ impl Feeding {
         if is_cut_due(engine.keeper(), every, seen) {
             self.cut(rt, alloc, engine, seen, writer)
         } else {
-            self.settle(rt, alloc, engine, writer)
+            settle(rt, alloc, engine, writer)
         }
     }
 
@@ -408,12 +344,47 @@ impl Feeding {
         ensures written { OnOk result ((E.keeping engine.new).waiting ≡ false) }
         ensures held { KeepsTo seen (E.keeping engine.old) (E.keeping engine.new) }
     {
-        self.settle(rt, alloc, engine, writer)?;
+        settle(rt, alloc, engine, writer)?;
         tell(rt, engine, cut_command(seen))?;
-        self.held = 0;
         self.freed = freed_by(engine.keeper(), seen);
         tell_aloud(rt, alloc, engine, Command::WriteCut, writer)
     }
+}
+
+/// Releases the epochs that the hall lacks.
+fn release<D: Disk, L: Law, R, E: Obey<D, L, R>>(rt: &R, engine: &mut E) -> Result<(), Fault>
+    requires whole { (E.keeping engine.old).broken ≡ false }
+    ensures disk { KeepsDisk D.view result (E.keeping engine.old).device (E.keeping engine.new).device }
+
+    // Nothing is written, whatever the writer is.
+    ensures fed { (marks : Bool) (held : Option (List ℕ)) → Feeds D.view L.answers marks result held held (E.keeping engine.old) (E.keeping engine.new) [] }
+    ensures rests { Carries L.answers (E.keeping engine.old) (E.keeping engine.new) [] }
+    ensures own { E.alone ≡ true → OnOk result ((E.hall engine.new).batches ≡ since_base (E.keeping engine.new)) }
+    ensures base { SameBase (E.keeping engine.old) (E.keeping engine.new) }
+{
+    tell(rt, engine, Command::Release)?;
+    Ok(())
+}
+
+/// Lets all epochs pass, and writes the output lines that were not written before. What the disk has stays.
+pub(crate) fn settle<D: Disk, L: Law, R, E: Obey<D, L, R>, W: Voice>(
+    rt: &R,
+    alloc: Global,
+    engine: &mut E,
+    writer: &mut W,
+) -> Result<(), Fault>
+    requires whole { (E.keeping engine.old).broken ≡ false }
+    ensures disk { KeepsDisk D.view result (E.keeping engine.old).device (E.keeping engine.new).device }
+    ensures fed { Feeds D.view L.answers W.marks result (W.contents writer.old) (W.contents writer.new) (E.keeping engine.old) (E.keeping engine.new) [] }
+    ensures rests { Carries L.answers (E.keeping engine.old) (E.keeping engine.new) [] }
+    ensures none_left { OnOk result ((E.keeping engine.new).queue ≡ []) }
+    ensures all_out { E.alone ≡ true → OnOk result (IsAllOut (E.keeping engine.new)) }
+    ensures base { SameBase (E.keeping engine.old) (E.keeping engine.new) }
+{
+    release(rt, engine)?;
+    tell(rt, engine, Command::Settle)?;
+    tell(rt, engine, Command::Collect)?;
+    write_outs(alloc, engine, writer)
 }
 
 /// The command to cut: no further than what was seen, where outputs are held.
@@ -531,18 +502,6 @@ fn next_out<D: Disk, L: Law, R, E: Obey<D, L, R>>(engine: &mut E) -> Option<Epoc
     let out = engine.next_out();
     each_at_work_is_kept(engine);
     out
-}
-
-/// What an epoch with this batch counts: itself and its records.
-fn weight(batch: &Batch) -> u64 {
-    (batch.len() as u64).saturating_add(1)
-}
-
-/// What a group of epochs counts.
-fn weight_of_all(group: &[Submitted]) -> u64 {
-    group
-        .iter()
-        .fold(0u64, |sum, each| sum.saturating_add(weight(&each.batch)))
 }
 
 /// The fault for a hall's refusal.

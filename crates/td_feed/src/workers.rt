@@ -25,10 +25,11 @@ use td_calls::{Closures, Law};
 use td_console::Fault;
 use td_core::Hall;
 use td_disk::Disk;
-use td_keeper::Keeper;
-use td_pool::{Crew, Pool, PoolError, Seat};
+use td_keeper::{Keeper, PoolEngine};
+use td_pool::{Crew, NewCourse, Pool, PoolError, Seat};
 
-/// Obeys orders by a hall on which workers work, at this pace, and settles. Refusals: those of what asks for the orders, of the
+/// Obeys orders by a hall on which workers work, at this pace, and settles. The pool keeps its course, so nothing is compared: nobody
+/// but the keeper releases, collects or cuts. Refusals: those of what asks for the orders, of the
 /// keeper and of the writer; that of a worker, in place of epochs that did not pass for it; and `Memory`, also where a thread
 /// could not be made.
 pub(crate) fn obey_by_workers<
@@ -46,6 +47,7 @@ pub(crate) fn obey_by_workers<
     keeper: Keeper<D, L>,
     hall: Hall<L>,
     blank: Blank,
+    course: NewCourse<L>,
     feeding: Feeding,
     orders: S,
     writer: &mut W,
@@ -53,6 +55,7 @@ pub(crate) fn obey_by_workers<
     calls: &C,
 ) -> (Keeper<D, L>, Result<(), Fault>)
     requires name { blank.name ≡ K.name }
+    requires course { course ≡ K.course }
     requires parts { (blank.parts ≡ K.parts) × (K.parts ≡ K.shards) }
     requires hall { (hall.workers ≡ K.shards) × (hall.given ≡ K.start) }
     requires whole { keeper.broken ≡ false }
@@ -62,7 +65,8 @@ pub(crate) fn obey_by_workers<
     ensures seen { IfSome (S.script (last_epoch keeper.standing) (last_request keeper.standing) orders) (λ script. TellsSeen result.1 (seen_at feeding.pace keeper.standing.epoch) script.orders (H.seen host.old) (H.seen host.new)) }
 {
     match Pool::<K, L>::new(alloc, hall, blank) {
-        Ok((pool, seats)) => {
+        Ok((mut pool, seats)) => {
+            pool.keep_course(course);
             let (ended, _host) = beside(
                 rt, alloc, keeper, &pool, seats, feeding, orders, writer, host, calls,
             );
@@ -118,7 +122,6 @@ fn beside<
             ensures seen { IfSome (S.script (last_epoch keeper.standing) (last_request keeper.standing) orders) (λ script. TellsSeen result.0.1 (seen_at feeding.pace keeper.standing.epoch) script.orders (H.seen host.entry.now) (H.seen result.1.now)) }
         {
             let pool = allowance.pool;
-            let mut engine = AtPool { keeper, allowance };
             let mut orders = orders;
             let mut workers = Vec::new(alloc);
             let mut is_refused = false;
@@ -135,10 +138,11 @@ fn beside<
                     }
                 }
             }
-            let obeyed = obey_each(
+            let (keeper, obeyed) = obey_at_pool(
                 rt,
                 alloc,
-                &mut engine,
+                keeper,
+                allowance,
                 is_refused,
                 feeding,
                 &mut orders,
@@ -150,10 +154,43 @@ fn beside<
             for worker in workers {
                 worked = worked.and(worker.join(rt));
             }
-            ((engine.keeper, ended_as(obeyed, worked)), host, writer)
+            ((keeper, ended_as(obeyed, worked)), host, writer)
         },
     );
     (ended, host)
+}
+
+/// Obeys each order by a keeper at the pool, which comes back.
+fn obey_at_pool<D: Disk, S: Asking, W: Voice, H: Host, L: Law, K: Crew, R: Wait>(
+    rt: &R,
+    alloc: Global,
+    keeper: Keeper<D, L>,
+    allowance: &Allowance<'_, K, L>,
+    is_refused: bool,
+    feeding: Feeding,
+    orders: &mut S,
+    writer: &mut W,
+    host: &mut H,
+) -> (Keeper<D, L>, Result<(), Fault>)
+    requires whole { keeper.broken ≡ false }
+    ensures disk { KeepsDisk D.view result.1 keeper.device result.0.device }
+    ensures fed { IfSome (S.script (last_epoch keeper.standing) (last_request keeper.standing) orders.old) (λ script. FeedsScript D.view L.answers W.marks H.New.view result.1 (W.contents writer.old) (W.contents writer.new) (H.copies host.old) (H.copies host.new) keeper result.0 script) }
+    ensures held { IfSome (S.script (last_epoch keeper.standing) (last_request keeper.standing) orders.old) (λ script. KeepsTo (then_seen (seen_at feeding.pace keeper.standing.epoch) script.orders) keeper result.0) }
+    ensures seen { IfSome (S.script (last_epoch keeper.standing) (last_request keeper.standing) orders.old) (λ script. TellsSeen result.1 (seen_at feeding.pace keeper.standing.epoch) script.orders (H.seen host.old) (H.seen host.new)) }
+{
+    let engine = PoolEngine::new(keeper, allowance.pool);
+    let mut at_pool = AtPool { engine, allowance };
+    let obeyed = obey_each(
+        rt,
+        alloc,
+        &mut at_pool,
+        is_refused,
+        feeding,
+        orders,
+        writer,
+        host,
+    );
+    (at_pool.engine.into_keeper(), obeyed)
 }
 
 /// Works from a seat until the pool is stopped, as it is at the first task beyond the allowance. Where the work ends by a refusal, it stops the pool.

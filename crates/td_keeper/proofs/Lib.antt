@@ -21,3 +21,4 @@ mod Acknowledging
 mod Handed
 mod Acknowledged
 mod Answering
+mod Knowing

@@ -3,7 +3,7 @@
 //! every epoch that was acknowledged.
 //!
 //! A keeper runs no task. It has the durable side alone, and a hall is lent to it call by call. So the same keeper serves one
-//! thread (`Engine`) and the workers of a pool (`drive`). What it knows of its disk is what the disk tells, so a recovery knows
+//! thread (`Engine`) and the workers of a pool (`PoolEngine`, `drive`). What it knows of its disk is what the disk tells, so a recovery knows
 //! it again. After a failed call that writes it is broken, and writes nothing more.
 //!
 //! For example `submit`, `release`, a drain of the hall, `collect` and `next_out` bring one epoch from its batch to its outputs.
@@ -22,6 +22,7 @@ mod keeper;
 pub mod laws;
 mod obey;
 mod own;
+mod pool_engine;
 mod queue;
 mod readers;
 mod receipt;
@@ -37,5 +38,6 @@ pub use engine::Engine;
 pub use group::{Group, GroupError};
 pub use keeper::Keeper;
 pub use obey::{Obey, tell_one};
+pub use pool_engine::PoolEngine;
 pub use receipt::Receipt;
 pub use td_store::standing::{KeeperError, Part};

@@ -1,6 +1,5 @@
 //! How far a keeper has come. All but `kept_states` take no memory.
-ghost use Rattle.std.specs.Prelude.{◌≡◌, ◌↔◌, ◌≤◌, ◌+◌, ◌-◌, ◌^◌, IsTrue, length, min, IfOk, IfErr};
-ghost use Rattle.std.specs.List.{sum_by};
+ghost use Rattle.std.specs.Prelude.{◌≡◌, ◌↔◌, ◌≤◌, ◌-◌, IsTrue, length, IfOk, IfErr};
 ghost use Rattle.td_store.specs.standing.Standing.{last_epoch, last_request};
 
 use crate::keeper::Keeper;
@@ -87,18 +86,5 @@ impl<D: Disk, L: Law> Keeper<D, L> {
         ensures { result ≡ self.now.broken }
     {
         self.broken
-    }
-
-    /// How much a hall that is opened at the checkpoint lacks: each epoch after it and each record of these counted as one, up to
-    /// the greatest of a u64. It reads the length of each batch.
-    pub fn pending(&self) -> u64
-        ensures { result ≡ min (sum_by (λ s. length s.batch + 1) self.now.standing.submitted) (2 ^ 64 - 1) }
-    {
-        let mut pending = 0u64;
-        for at in 0..self.submitted.len() {
-            let weight = (self.submitted[at].batch.len() as u64).saturating_add(1);
-            pending = pending.saturating_add(weight);
-        }
-        pending
     }
 }

@@ -1,2 +1,5 @@
 pub mod Counted
 pub mod Ledger
+pub mod Beginnings
+pub mod Noting
+pub mod Standing

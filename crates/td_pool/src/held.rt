@@ -14,8 +14,10 @@ ghost use Rattle.td_core.specs.declared.error.HallError.TheVariants.{Memory, Str
 ghost use Rattle.td_pool.specs.Counts.{IsCounted};
 ghost use Rattle.td_pool.specs.Hands.{is_empty, is_ready, task_of};
 ghost use Rattle.td_pool.specs.Lents.{lent};
+ghost use Rattle.td_pool.specs.Stands.{StandsAs};
 
 use crate::any_hall::AnyHall;
+use crate::course::{Course, Moment, NewCourse, note};
 use crate::hand::Hand;
 use crate::seat::{Crew, Seat};
 use std::marker::Model;
@@ -46,20 +48,23 @@ pub struct Held<K: Crew, L: Law> {
     pub(crate) is_stopped: bool,
     /// Of each shard, whether its worker waits for something to take.
     sleeps: Vec<bool>,
+    /// What was done to the hall, where that is kept.
+    course: Option<Course<K, L>>,
     pub(crate) book: Book<K>,
     pub(crate) rest: Share<K>,
 }
 
 impl<K: Crew, L: Law> Model for Held<K, L> {
-    ghost use Rattle.std.specs.Prelude.{◌≡◌};
+    ghost use Rattle.std.specs.Prelude.{◌≡◌, IfSome};
     ghost use Rattle.td_pool.specs.Counts.{IsCounted};
     ghost use Rattle.td_pool.specs.Lents.{Lent, lent};
+    ghost use Rattle.td_pool.specs.Stands.{StandsAs};
 
     ghost Value = { Lent };
 
     ghost view = { λ h. lent h.hall h.is_stopped };
 
-    ghost invariant = { λ h. IsCounted K.start h.hall h.book.total × (h.rest.parts ≡ 0) × (h.rest.amount ≡ 0) };
+    ghost invariant = { λ h. IsCounted K.start h.hall h.book.total × (h.rest.parts ≡ 0) × (h.rest.amount ≡ 0) × IfSome h.course (λ course. StandsAs course h.hall) };
 }
 
 impl<K: Crew, L: Law> Held<K, L> {
@@ -73,8 +78,38 @@ impl<K: Crew, L: Law> Held<K, L> {
             hall,
             is_stopped: false,
             sleeps,
+            course: None,
             book,
             rest,
+        }
+    }
+
+    /// Keeps a course from here on, which begins with the hall as it is.
+    pub(crate) fn keep_course(&mut self, course: NewCourse<L>)
+        requires { course ≡ K.course }
+        ensures { self.new ≡ self.old }
+    {
+        self.course = Course::begin(course, &self.hall);
+    }
+
+    /// The moment at which the hall stands, to be known again later (`is_at`); None where the pool keeps no course.
+    pub fn moment(&self) -> Option<Moment<K, L>>
+        ensures { IfSome result (λ moment. StandsAs moment self.now.hall) }
+    {
+        match &self.course {
+            Some(course) => Some(course.moment()),
+            None => None,
+        }
+    }
+
+    /// Whether the hall stands as at a moment of this pool: nothing was released, collected, cut or closed since. It compares two
+    /// numbers. Where the pool keeps no course it is false.
+    pub fn is_at(&self, moment: &Moment<K, L>) -> bool
+        ensures { IsTrue result → StandsAs moment.now self.now.hall }
+    {
+        match &self.course {
+            Some(course) => course.is_at(moment),
+            None => false,
         }
     }
 
@@ -88,6 +123,7 @@ impl<K: Crew, L: Law> Held<K, L> {
             hall,
             is_stopped: _,
             sleeps: _,
+            course: _,
             book,
             rest,
         } = self;
@@ -189,6 +225,7 @@ impl<K: Crew, L: Law> Held<K, L> {
             hall,
             is_stopped: _,
             sleeps: _,
+            course: _,
             book,
             rest: _,
         } = self;
@@ -229,6 +266,7 @@ impl<K: Crew, L: Law> Held<K, L> {
             hall,
             is_stopped: _,
             sleeps: _,
+            course: _,
             book,
             rest: _,
         } = self;
@@ -274,22 +312,36 @@ impl<K: Crew, L: Law> AnyHall<L> for Held<K, L> {
     }
 
     fn release_batch(&mut self, batch: Batch) -> Result<u64, (HallError, Batch)> {
-        self.hall.release(batch)
+        let Held { hall, course, .. } = self;
+        let released = hall.release(batch);
+        note(course, hall);
+        released
     }
 
     fn collect_outputs(&mut self) -> Result<Vec<EpochOut>, HallError> {
-        self.hall.collect()
+        let Held { hall, course, .. } = self;
+        let collected = hall.collect();
+        note(course, hall);
+        collected
     }
 
     fn cut_at_last(&mut self) -> Result<Cut, HallError> {
-        self.hall.cut()
+        let Held { hall, course, .. } = self;
+        let cut = hall.cut();
+        note(course, hall);
+        cut
     }
 
     fn cut_at_epoch(&mut self, epoch: u64) -> Result<Cut, HallError> {
-        self.hall.cut_at(epoch)
+        let Held { hall, course, .. } = self;
+        let cut = hall.cut_at(epoch);
+        note(course, hall);
+        cut
     }
 
     fn close_inputs(&mut self) {
-        self.hall.close();
+        let Held { hall, course, .. } = self;
+        hall.close();
+        note(course, hall);
     }
 }

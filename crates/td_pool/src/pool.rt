@@ -9,6 +9,7 @@ ghost use Rattle.td_pool.specs.Counts.{take_weight};
 ghost use Rattle.td_pool.specs.Hands.{is_empty};
 ghost use Rattle.td_pool.specs.declared.error.PoolError.TheVariants.{NotAll, Memory};
 
+use crate::course::NewCourse;
 use crate::error::PoolError;
 use crate::held::{Held, TAKE_WEIGHT};
 use crate::seat::{Crew, Seat};
@@ -78,6 +79,14 @@ impl<K: Crew, L: Law> Pool<K, L> {
             shards,
         };
         Ok((pool, seats))
+    }
+
+    /// Keeps the course of the hall from here on, so that who holds the lock knows it again by a number (`Held::is_at`). It is called
+    /// before the pool is shared.
+    pub fn keep_course(&mut self, course: NewCourse<L>)
+        requires { course ≡ K.course }
+    {
+        self.held.get_mut().keep_course(course);
     }
 
     /// The hall, under the lock. It is any hall that workers may have left: what is known of it is what its type says.

@@ -10,20 +10,27 @@ use std::marker::Brand;
 use std::sync::ledger::{Ledger, Share};
 use td_calls::Law;
 
-/// The name of one pool, with the number of its shards and how many tasks were given to its hall before. A pool and its seats bear
-/// it in their types, so that no seat goes with another pool.
+/// The name of one pool, with the number of its shards, how many tasks were given to its hall before, and which course the pool
+/// keeps, if it keeps one. A pool, its seats and the moments of its course bear it in their types, so that none goes with another pool.
 pub trait Crew: Ledger {
+    ghost use Rattle.logbook.specs.Pages.{Book};
+
     /// How many shards, and seats.
     ghost shards: { ℕ };
 
     /// How many tasks were given before.
     ghost start: { ℕ };
+
+    /// Which course.
+    ghost course: { Book };
 }
 
 impl Crew for Brand {
     ghost shards = { 0 };
 
     ghost start = { 0 };
+
+    ghost course = { record { number = 0; log_name = 0; cells_name = 0 } };
 }
 
 /// The right to take and give tasks of one shard, with a count of its gives. It cannot be copied. What it holds between a take

@@ -17,7 +17,7 @@ use std::thread;
 use std::thread::{Promise, PromisedHandle, Scope, Threads};
 use td_calls::{Closures, Law};
 use td_core::Hall;
-use td_pool::{Crew, OpenGate, Pool, PoolError, Seat};
+use td_pool::{Crew, NewCourse, OpenGate, Pool, PoolError, Seat};
 
 /// What is known of a worker's end: where it was refused, it is as these closures may have it refused.
 #[derive(Drop)]
@@ -33,7 +33,7 @@ impl<L: Law, C: Closures<L>> Promise<Result<(), PoolError>> for EndsBy<L, C> {
 /// A thread that works.
 type Worker<L, C> = PromisedHandle<Result<(), PoolError>, EndsBy<L, C>>;
 
-/// Makes a pool over a hall, with a worker in a thread of its own for each of its shards, does the work beside them in this thread,
+/// Makes a pool over a hall, which keeps its course, with a worker in a thread of its own for each of its shards, does the work beside them in this thread,
 /// and then stops the pool and waits until each worker has ended; the hall goes with its pool. Answers what the work came to, and the
 /// refusal of the first worker in order that was refused: such a worker stops the pool, so that the work does not wait for it.
 ///
@@ -56,7 +56,8 @@ pub fn beside_workers<
     ensures refused { IfErr result (λ e. (e.0 ≡ Memory) × (e.1 ≡ work)) }
 {
     let blank = blank_for(&hall);
-    in_pool::<L, C, W, Brand, R>(rt, alloc, hall, blank, calls, work)
+    let course = NewCourse::new();
+    in_pool::<L, C, W, Brand, R>(rt, alloc, hall, blank, course, calls, work)
 }
 
 /// A name that no pool has yet, with a part for each shard of a hall.
@@ -78,10 +79,12 @@ fn in_pool<
     alloc: Global,
     hall: Hall<L>,
     blank: Blank,
+    course: NewCourse<L>,
     calls: &C,
     work: W,
 ) -> Result<(W::Answer, Result<(), PoolError>), (PoolError, W)>
     requires name { blank.name ≡ K.name }
+    requires course { course ≡ K.course }
     requires parts { (blank.parts ≡ K.parts) × (K.parts ≡ K.shards) }
     requires hall { (hall.workers ≡ K.shards) × (hall.given ≡ K.start) }
     ensures gives { IfOk result (λ ended. W.gives work ended.0) }
@@ -89,7 +92,10 @@ fn in_pool<
     ensures refused { IfErr result (λ e. (e.0 ≡ Memory) × (e.1 ≡ work)) }
 {
     match Pool::<K, L>::new(alloc, hall, blank) {
-        Ok((pool, seats)) => in_scope(rt, alloc, &pool, seats, calls, work),
+        Ok((mut pool, seats)) => {
+            pool.keep_course(course);
+            in_scope(rt, alloc, &pool, seats, calls, work)
+        }
         Err((refusal, _hall)) => Err((refusal, work)),
     }
 }

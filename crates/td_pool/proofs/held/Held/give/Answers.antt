@@ -4,6 +4,7 @@ use Rattle.td_core.specs.declared.error.HallError.TheVariants.{Memory}
 use Rattle.td_pool.specs.Lents.{Lent}
 use Rattle.td_pool.proofs.Counted.{by_give}
 use Rattle.td_pool.proofs.Ledger.{other_given}
+use Rattle.td_pool.proofs.Standing.{course_stands, stands_given}
 use Rattle.td_pool.proofs.held.Held.give.Goals as goal
 
 pub invariant_of-self-2 : goal.invariant_of-self-2
@@ -13,6 +14,7 @@ invariant_of-self-2 g c =
           (omega (arith, c.audit.ensures.total, c.add.ensures.total, c.add-2.ensures.total)),
       c.self.invariant.1,
       c.self.invariant.2,
+      course_stands c.self.inside.course c.self.inside.hall c.give.new.self (stands_given g.L.Law.answers c.self.inside.hall c.give.new.self c.args.done c.in_ok-give.ensures.given) c.self.invariant.3,
     )
 
 pub returns-in_err-give-clause-memory_last : goal.returns-in_err-give-clause-memory_last

@@ -7,12 +7,12 @@ use Rattle.td_feed.proofs.workers.fn.beside.scope.Goals as goal
 
 pub returns : goal.returns
 returns g c =
-    let obeyed = c.obey_each-obeyed.ensures in
+    let obeyed = c.obey_at_pool-keeper.ensures in
     let ended = c.ended_as.ensures in record {
       same_writer = refl;
       same_host = refl;
-      disk = disk_ended c.obey_each-obeyed.result c.ended_as.result c.loop-worker.worked ended.ok ended.err obeyed.disk;
-      fed = IfSome_then (g.S.Asking.script (last_epoch c.captures.keeper.standing) (last_request c.captures.keeper.standing) c.captures.orders) obeyed.fed (λ s fed. fed_ended c.obey_each-obeyed.result c.ended_as.result c.loop-worker.worked ended.ok ended.err fed);
+      disk = disk_ended c.obey_at_pool-keeper.result.1 c.ended_as.result c.loop-worker.worked ended.ok ended.err obeyed.disk;
+      fed = IfSome_then (g.S.Asking.script (last_epoch c.captures.keeper.standing) (last_request c.captures.keeper.standing) c.captures.orders) obeyed.fed (λ s fed. fed_ended c.obey_at_pool-keeper.result.1 c.ended_as.result c.loop-worker.worked ended.ok ended.err fed);
       held = obeyed.held;
-      seen = IfSome_then (g.S.Asking.script (last_epoch c.captures.keeper.standing) (last_request c.captures.keeper.standing) c.captures.orders) obeyed.seen (λ s seen. seen_ended c.obey_each-obeyed.result c.ended_as.result c.loop-worker.worked ended.ok seen);
+      seen = IfSome_then (g.S.Asking.script (last_epoch c.captures.keeper.standing) (last_request c.captures.keeper.standing) c.captures.orders) obeyed.seen (λ s seen. seen_ended c.obey_at_pool-keeper.result.1 c.ended_as.result c.loop-worker.worked ended.ok seen);
     }

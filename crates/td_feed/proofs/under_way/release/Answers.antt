@@ -1,7 +1,7 @@
 use Rattle.std.proofs.Common.{refl}
 use Rattle.td_keeper.specs.declared.command.Command.TheVariants.{Release}
 use Rattle.td_feed.proofs.Sessions.{disk_handed, disk_ok, fed_refused, fed_quietly, all_released}
-use Rattle.td_feed.proofs.under_way.Feeding.release.Goals as goal
+use Rattle.td_feed.proofs.under_way.release.Goals as goal
 
 pub returns-in_err-tell-clause-disk : goal.returns-in_err-tell-clause-disk
 returns-in_err-tell-clause-disk g c = disk_handed c.from_residual.result c.from_residual.ensures.1 c.in_err-tell.ensures.disk

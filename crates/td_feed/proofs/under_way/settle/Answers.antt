@@ -4,7 +4,7 @@ use Rattle.td_keeper.specs.declared.command.Command.TheVariants.{Settle, Collect
 use Rattle.std.proofs.lemmas.Result.{on_ok_weaker}
 use Rattle.td_feed.proofs.Sessions.{disk_then, disk_handed, fed_after, fed_handed, fed_refused, fed_quietly, went_on, to_the_end}
 use Rattle.td_feed.proofs.Held.{base_then}
-use Rattle.td_feed.proofs.under_way.Feeding.settle.Goals as goal
+use Rattle.td_feed.proofs.under_way.settle.Goals as goal
 
 pub returns-in_err-release-clause-disk : goal.returns-in_err-release-clause-disk
 returns-in_err-release-clause-disk g c = disk_handed c.from_residual.result c.from_residual.ensures.1 c.in_err-release.ensures.disk
