@@ -40,6 +40,10 @@ PLACES = {
     GROWTHS: [
         "td/src/main.rt given_words: collect alloc",
         "td_calls/src/stored.rt add: insert",
+        "td_closures/src/draft.rt with_lets: append refuse",
+        "td_closures/src/draft.rt with_item: append refuse",
+        "td_closures/src/draft.rt with_each: push refuse",
+        "td_closures/src/draft.rt with_send: push refuse",
         "td_console/src/engine.rt read_all: extend_from_slice",
         "td_keeper/src/drive.rt drive: Vec::with_capacity len",
         "td_keeper/src/submit.rt submit_next: Vec::with_capacity",
