@@ -47,6 +47,7 @@ SHAPE = "the limits of a shape, as a command line has them"
 EXAMPLE = "a worked example"
 # another number of this value.
 SPACE, CODE, PIECE, GROUP, POWER = "the code of a blank", "the code of a closure", "the bytes of a piece that is read or written", "the weight of a hall's cut", "a power of two, or a shift"
+CELLS = "the bytes that the cells of a group take at most"
 PLACES = {
     LIMIT: [
         "td_store/src/group/cells.rt: 65536, 1",
@@ -72,8 +73,10 @@ PLACES = {
     ANEW: [
         "engine_steps/src/ring_calls.rt: 24, 2",
         "engine_steps/src/ring_calls.rt: 65536, 3",
-        "td_feed/src/at_once.rt: 24, 1",
-        "td_feed/src/at_once.rt: 25, 1",
+        "td_feed/src/room.rt: 24, 1",
+        "td_feed/src/room.rt: 25, 1",
+        "td_feed/specs/Groups.antt: 24, 1",
+        "td_feed/specs/Groups.antt: 25, 1",
         "td_head/src/shape.rt: 24, 1",
         "td_head/specs/Layout.antt: 24, 1",
     ],
@@ -101,13 +104,13 @@ PLACES = {
         "td/src/plan.rt: 32, 1",
         "td_console/specs/Answer.antt: 32, 3",
         "td_console/specs/Turns.antt: 32, 2",
-        "td_feed/specs/Dumped.antt: 32, 2",
-        "td_feed/specs/Names.antt: 32, 1",
-        "td_feed/specs/Noted.antt: 32, 1",
         "td_feed/specs/Said.antt: 32, 1",
-        "td_feed/specs/Shown.antt: 32, 5",
-        "td_feed/src/excerpt.rt: 32, 1",
-        "td_feed/src/file_name.rt: 32, 1",
+        "td_orders/specs/Names.antt: 32, 1",
+        "td_orders/specs/Noted.antt: 32, 1",
+        "td_orders/src/excerpt.rt: 32, 1",
+        "td_orders/src/file_name.rt: 32, 1",
+        "td_report/specs/Dumped.antt: 32, 2",
+        "td_report/specs/Shown.antt: 32, 5",
         "td_states/specs/Lines.antt: 32, 3",
     ],
     CODE: [
@@ -117,17 +120,21 @@ PLACES = {
     PIECE: [
         "td/src/disk.rt: 4096, 2",
         "td_console/src/engine.rt: 4096, 1",
-        "td_feed/src/dumping.rt: 65536, 1",
-        "td_feed/src/line_reader.rt: 4096, 1",
-        "td_feed/src/line_reader.rt: 65536, 1",
         "td_feed/src/under_way.rt: 65536, 1",
+        "td_orders/specs/Lines.antt: 4096, 1",
+        "td_orders/src/line_reader.rt: 4096, 1",
+        "td_orders/src/line_reader.rt: 65536, 1",
+        "td_report/src/dumping.rt: 65536, 1",
     ],
     GROUP: [
         "td_console/src/hall.rt: 65536, 1",
     ],
+    CELLS: [
+        "td_feed/specs/Groups.antt: 1048576, 1",
+    ],
     POWER: [
-        "td_feed/src/asking.rt: 32, 1",
-        "td_feed/src/line_reader.rt: 32, 1",
+        "td_orders/src/asking.rt: 32, 1",
+        "td_orders/src/line_reader.rt: 32, 1",
     ],
 }
 NUMBER = re.compile(r"(?<![\w.])(0x[0-9A-Fa-f_]+|\d[\d_]*)(?:u8|u16|u32|u64|usize)?(?![\w.]*\w)")

@@ -123,7 +123,7 @@ impl Stage {
     fn show(&mut self, rt: &impl Print) -> Result<(), StepError> {
         let mut device = self.take()?;
         let mut writer = StdWriter(io::writer(rt));
-        let shown = td_feed::show(self.alloc, &mut device, &self.plan, &mut writer);
+        let shown = td_report::show(self.alloc, &mut device, &self.plan, &mut writer);
         self.put_back(device);
         Ok(shown?)
     }

@@ -16,9 +16,10 @@ use std::{fs, io};
 use td_calls::Stock;
 use td_console::{Fault, StdReader, StdWriter};
 use td_disk::{Disk, FileDisk, FileFailure, ReadAhead};
-use td_feed::{format, read_plan, shape_of, upgrade};
+use td_feed::upgrade;
 use td_head::Shape;
 use td_plan::Plan;
+use td_report::{format, read_plan, shape_of};
 use td_store::copy::copy;
 
 /// Makes a disk of this shape in the file at `disk`, formatted for the plan in the file at `plan`. Its closures in text are those of the

@@ -9,7 +9,8 @@ use std::fs::File;
 use std::rt::Files;
 use std::sync::Arc;
 use td_disk::FileDisk;
-use td_feed::{CopyTo, FileName, Host, Why};
+use td_feed::{Host, Why};
+use td_orders::{CopyTo, FileName};
 use td_store::copy::CopyError;
 
 /// A gauge that is told what was seen, and a folder for copies, if there is one; and the path of the one that was made last. Each copy has

@@ -11,10 +11,10 @@ use std::io;
 use std::rt::Files;
 use std::sync::Wait;
 use td_console::{Fault, StdReader, StdWriter, ascii_text, first_line, read_all, write_answer};
-use td_feed::read_plan;
 use td_picture::{UNKNOWN, drawn, listed};
 use td_plan::text::next_word;
 use td_plan::{Block, Plan, PlanError};
+use td_report::read_plan;
 use td_written::text_in;
 
 /// How many bytes of a line with a fault are told at most.

@@ -12,9 +12,9 @@ use std::rt::Files;
 use std::sync::Wait;
 use td_console::{Fault, StdWriter};
 use td_disk::{Disk, FileFailure, MakeError, ReadAhead};
-use td_feed::{dump, dump_placed, show};
 use td_live::{LiveError, ReadOnlyFile, Snapshot, take_snapshot};
 use td_plan::Plan;
+use td_report::{dump, dump_placed, show};
 use td_store::standing::KeeperError;
 
 /// How many readings of a disk there are at most before it is said to be busy.

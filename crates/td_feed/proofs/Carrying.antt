@@ -26,7 +26,7 @@ use Rattle.td_keeper.specs.Grouped.{AllOrNone}
 use Rattle.td_keeper.specs.Keeping.{Keeping, IsKeeping, with_epochs, with_group, with_checkpoint}
 use Rattle.td_feed.specs.Fed.{TellsHistory, EachTellsHistory, EachTellsSome}
 use Rattle.td_feed.specs.Carried.{StandsFor, Carries, Stopped, Leaves}
-use Rattle.td_feed.proofs.Newness.{greatest-append}
+use Rattle.td_orders.specs.OrderProofs.{greatest-append}
 
 -- the law, as it is handed in: what is told after a stop stands for a beginning
 abbrev pub Stands-on : Answers → Type 0

@@ -6,14 +6,14 @@ use Rattle.std.proofs.lemmas.List.{map-append, take-append-le}
 use Rattle.std.proofs.lemmas.List.Elements.{All-nil, All-cons, All-append, All-weaker}
 use Rattle.td_plan.specs.Lines.{Line as PlanLine}
 use Rattle.td_calls.specs.Answers.{Answers}
-use Rattle.td_disk.specs.Disk.{DiskView, DiskState}
+use Rattle.td_disk.specs.Disk.{DiskView}
 use Rattle.td_journal.specs.declared.submitted.Submitted.{Submitted}
 use Rattle.td_keeper.specs.Keeping.{Keeping}
-use Rattle.td_feed.specs.declared.order.Order.{Order}
-use Rattle.td_feed.specs.declared.order.Order.TheVariants as order
-use Rattle.td_feed.specs.Noted.{Aside, as_asked, ComeOf, copied_in}
-use Rattle.td_feed.specs.Noted.Aside.{to_say, to_answer, to_copy}
-use Rattle.td_feed.specs.Orders.{notes_in}
+use Rattle.td_orders.specs.declared.order.Order.{Order}
+use Rattle.td_orders.specs.declared.order.Order.TheVariants as order
+use Rattle.td_orders.specs.Noted.{Aside, as_asked, ComeOf, copied_in}
+use Rattle.td_orders.specs.Noted.Aside.{to_say, to_answer, to_copy}
+use Rattle.td_orders.specs.Orders.{notes_in}
 use Rattle.td_head.specs.declared.head.Head.{Head}
 use Rattle.td_store.specs.standing.Told.{Told}
 use Rattle.td_store.specs.standing.Tells.{Tells, Keeps}

@@ -5,7 +5,7 @@ use Rattle.std.proofs.Math.Nat.{le-max_left, le-max_right, max-eq_left, max-eq_r
 use Rattle.std.proofs.lemmas.Bool.{ltb-true, ltb-false}
 use Rattle.td_stamp.specs.declared.values.Entry.{Entry}
 use Rattle.td_calls.specs.Answers.{Answers}
-use Rattle.td_disk.specs.Disk.{DiskView, DiskState}
+use Rattle.td_disk.specs.Disk.{DiskView}
 use Rattle.td_journal.specs.declared.submitted.Submitted.{Submitted as AnySubmitted}
 use Rattle.td_questions.specs.declared.question.Wanted.{Wanted}
 use Rattle.td_keeper.specs.declared.command.Command.{Command}
@@ -18,8 +18,8 @@ use Rattle.td_keeper.specs.Received.{IsReceived}
 use Rattle.td_keeper.specs.Keeping.{Keeping, with_group}
 use Rattle.td_keeper.specs.Halls.{last_passed}
 use Rattle.td_keeper.specs.Driven.{Submits, SubmitsAs, SubmitsAll, Releases, Settles, Collects, HandsOut, Cuts, Asks, Writes, ClosesFree, Obeys}
-use Rattle.td_feed.specs.declared.order.Order.{Order}
-use Rattle.td_feed.specs.declared.order.Order.TheVariants as order
+use Rattle.td_orders.specs.declared.order.Order.{Order}
+use Rattle.td_orders.specs.declared.order.Order.TheVariants as order
 use Rattle.td_feed.specs.Carried.{batch_in, is_resting}
 use Rattle.td_feed.specs.Held.{seen_then, seen_after, then_seen, SameBase, GoesUpTo, KeepsTo, MovesBase, cut_for}
 use Rattle.td_feed.proofs.Lines.{is_quiet}

@@ -8,7 +8,7 @@ use Rattle.std.proofs.lemmas.List.{append-nil, append_assoc}
 use Rattle.td_plan.specs.Lines.{Line as PlanLine}
 use Rattle.td_calls.specs.Answers.{Answers}
 use Rattle.td_stamp.specs.declared.epoch_out.EpochOut.{EpochOut}
-use Rattle.td_disk.specs.Disk.{DiskView, DiskState}
+use Rattle.td_disk.specs.Disk.{DiskView}
 use Rattle.td_journal.specs.declared.submitted.Submitted.{Submitted as AnySubmitted}
 use Rattle.td_store.specs.declared.standing.error.KeeperError.TheVariants as error
 use Rattle.td_keeper.specs.declared.command.Command.{Command}
@@ -20,11 +20,11 @@ use Rattle.td_keeper.specs.Driven.{submitted_in, submitted_by, Obeys, Driven}
 use Rattle.td_pool.specs.declared.error.PoolError.{PoolError}
 use Rattle.td_console.specs.declared.faults.Fault.{Fault}
 use Rattle.td_console.specs.declared.faults.Fault.TheVariants.{Output, Memory, Keeper}
-use Rattle.td_feed.specs.declared.note.Note.{Note}
+use Rattle.td_orders.specs.declared.note.Note.{Note}
 use Rattle.td_questions.specs.declared.question.Wanted.{Wanted as Of}
 use Rattle.td_head.specs.Layout.{Sizes}
-use Rattle.td_feed.specs.Noted.{Aside, copied_in, note_line}
-use Rattle.td_feed.specs.Noted.Aside.{to_say, to_answer, to_copy}
+use Rattle.td_orders.specs.Noted.{Aside, copied_in, note_line}
+use Rattle.td_orders.specs.Noted.Aside.{to_say, to_answer, to_copy}
 use Rattle.td_feed.specs.Carried.{is_refused}
 use Rattle.td_feed.specs.Fed.{pool_fault}
 use Rattle.td_feed.specs.Said.{request_in, line_of, answer_text, full_line, copied_line, not_copied_line, Saying, commands_in, replies_in, notes_among, lines_of, Wanted, Says, SaysSome, SaysUnheard, SaysBy, SaysFrom, SaysFed, copies_said, Refuses}

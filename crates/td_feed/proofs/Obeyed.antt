@@ -1,21 +1,21 @@
 -- Orders that were obeyed, one after another, of a script that may be known.
-use Rattle.std.proofs.Common.{◌≡◌, ℕ, zero, suc, arith, Bool, true, false, List, [], ◌∷◌, ◌++◌, refl, sym, ap, ◌∙◌, subst, append-nil, append_assoc}
+use Rattle.std.proofs.Common.{◌≡◌, ℕ, zero, suc, arith, Bool, false, List, [], ◌∷◌, ◌++◌, refl, sym, ap, ◌∙◌, subst, append-nil, append_assoc}
 use Rattle.std.specs.Prelude.{Option, Some, None, Result, Ok, Err, OnOk}
 use Rattle.std.proofs.lemmas.Option.{IfSome_then}
 use Rattle.std.specs.Option.{IfSome}
 use Rattle.td_calls.specs.Answers.{Answers}
-use Rattle.td_disk.specs.Disk.{DiskView, DiskState}
+use Rattle.td_disk.specs.Disk.{DiskView}
 use Rattle.td_journal.specs.declared.submitted.Submitted.{Submitted}
 use Rattle.td_journal.specs.Numbers.{greatest}
 use Rattle.td_stamp.specs.declared.values.Entry.{Entry}
 use Rattle.td_store.specs.standing.Standing.{last_request, submission}
 use Rattle.td_keeper.specs.Keeping.{Keeping}
-use Rattle.td_feed.specs.declared.order.Order.{Order}
-use Rattle.td_feed.specs.declared.at_once.Asked.{Asked}
-use Rattle.td_feed.specs.declared.at_once.Asked.TheVariants.{One, Epochs}
-use Rattle.td_feed.specs.Noted.{Aside, ComeOf, copied_in}
-use Rattle.td_feed.specs.Orders.{submissions, notes_in, order_for, new_after}
-use Rattle.td_feed.specs.Asked.{Script, SeeNothing, Asks, IsOf, asked_for, notes_for}
+use Rattle.td_orders.specs.declared.order.Order.{Order}
+use Rattle.td_orders.specs.declared.at_once.Asked.{Asked}
+use Rattle.td_orders.specs.declared.at_once.Asked.TheVariants.{One, Epochs}
+use Rattle.td_orders.specs.Noted.{Aside, ComeOf, copied_in}
+use Rattle.td_orders.specs.Orders.{submissions, notes_in, order_for, new_after}
+use Rattle.td_orders.specs.Scripts.{Script, SeeNothing, Asks, IsOf, asked_for, notes_for}
 use Rattle.td_feed.specs.Copied.{Copied, MakesCopies}
 use Rattle.td_feed.specs.Session.{FeedsCopying}
 use Rattle.td_feed.specs.Held.{seen_after, then_seen, asked_seen, seen_with, told_seen, TellsSeen, SameBase, KeepsTo}
@@ -27,14 +27,14 @@ use Rattle.td_feed.proofs.Held.{seen_on, seen_append, up_to_then, up_to_further,
 use Rattle.td_feed.proofs.SeenAsked.{nothing_seen, one_for, none_seen, seen_with_more, told_over, tells_taken}
 use Rattle.td_feed.proofs.Copies.{as_they_ask, none_yet, come-append, copied-append, none_made, made_then, made_within}
 use Rattle.td_feed.proofs.Lines.{says_then, then_quiet}
-use Rattle.td_feed.proofs.Newness.{new_on, new_after-append}
-use Rattle.td_feed.proofs.Released.{submissions-append, notes-append}
+use Rattle.td_feed.proofs.Newness.{new_on}
+use Rattle.td_orders.specs.OrderProofs.{new_after-append, submissions-append, notes-append}
 
 -- of a script some orders are done, and this is left
 abbrev pub IsPart : Option Script → List Order → Option Script → Type 0
 IsPart None done left = Unit {0}
 IsPart (Some all) done None = ⊥
-IsPart (Some all) done (Some left) = (all.orders ≡ done ++ left.orders) × (all.is_sound ≡ left.is_sound)
+IsPart (Some all) done (Some left) = (all.orders ≡ done ++ left.orders) × (all.fault ≡ left.fault)
 
 -- what is asked for, as orders, where they are not known
 each_order : List Submitted → List Order
@@ -43,7 +43,7 @@ each_order (s ∷ group) = order_for s.request s.batch ∷ each_order group
 
 as_orders : Asked → List Order
 as_orders (One order) = order ∷ []
-as_orders (Epochs group) = each_order group
+as_orders (Epochs group) = each_order group.items
 
 one_submits : (request : ℕ) (batch : List Entry) (orders : List Order) → submissions (order_for request batch ∷ orders) ≡ submission request batch ∷ submissions orders
 one_submits zero batch orders = refl
@@ -57,7 +57,7 @@ each_submits (s ∷ group) = one_submits s.request s.batch (each_order group) �
 these : (asked : Asked) → submissions (as_orders asked) ≡ asked_for asked
 unfolding as_orders
 these (One order) = refl
-these (Epochs group) = each_submits group
+these (Epochs group) = each_submits group.items
 
 one_notes : (request : ℕ) (batch : List Entry) (orders : List Order) → notes_in (order_for request batch ∷ orders) ≡ notes_in orders
 one_notes zero batch orders = refl
@@ -71,7 +71,7 @@ each_notes (s ∷ group) = one_notes s.request s.batch (each_order group) ∙ ea
 their_notes : (asked : Asked) → notes_in (as_orders asked) ≡ notes_for asked
 unfolding as_orders
 their_notes (One order) = refl
-their_notes (Epochs group) = each_notes group
+their_notes (Epochs group) = each_notes group.items
 
 -- and where they are
 those : (asked : Asked) (orders : List Order) → IsOf asked orders → submissions orders ≡ asked_for asked
@@ -87,7 +87,7 @@ each_see (s ∷ group) = one_for s.request s.batch (each_order group) (each_see 
 their_seen : (asked : Asked) (last : ℕ) → asked_seen last asked ≡ seen_after last (as_orders asked)
 unfolding as_orders
 their_seen (One order) last = refl
-their_seen (Epochs group) last = sym (nothing_seen (each_order group) (each_see group) last)
+their_seen (Epochs group) last = sym (nothing_seen (each_order group.items) (each_see group.items) last)
 
 those_seen : (asked : Asked) (orders : List Order) → IsOf asked orders → (last : ℕ) → asked_seen last asked ≡ seen_after last orders
 those_seen (One order) orders is last = sym (ap (seen_after last) is)
@@ -336,10 +336,10 @@ module _ {D E : Type 0} (view : D → DiskView) (answers : Answers) (marks : Boo
             tells_taken r first seen before after s.orders so.done l.orders part.0 (subst (λ (q : Result (Unit {0}) Fault). OnOk q (l.orders ≡ [])) (sym refused.1) tt) told so.held.now
 
     -- where the script has ended
-    pub is_sound : Asks left next None → IfSome all (λ s. s.is_sound ≡ true)
+    pub is_sound : Asks left next None → IfSome all (λ s. s.fault ≡ None)
     is_sound asks = by all left next so.known asks
       where
-        by : (all left next : Option Script) → IsPart all so.done left → Asks left next None → IfSome all (λ s. s.is_sound ≡ true)
+        by : (all left next : Option Script) → IsPart all so.done left → Asks left next None → IfSome all (λ s. s.fault ≡ None)
         by None left next is a = tt
         by (Some s) None next is a = absurd is
         by (Some s) (Some l) None is a = absurd a

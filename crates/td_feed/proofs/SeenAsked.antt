@@ -4,39 +4,15 @@ use Rattle.std.specs.Prelude.{Option, Some, None, Result, Ok, Err, OnOk, IsErr}
 use Rattle.td_pool.specs.declared.error.PoolError.{PoolError}
 use Rattle.td_console.specs.declared.faults.Fault.{Fault}
 use Rattle.td_stamp.specs.declared.values.Entry.{Entry}
-use Rattle.td_journal.specs.declared.submitted.Submitted.{Submitted}
-use Rattle.td_feed.specs.declared.order.Order.{Order}
-use Rattle.td_feed.specs.declared.order.Order.TheVariants as order
-use Rattle.td_feed.specs.declared.at_once.Asked.{Asked}
-use Rattle.td_feed.specs.Orders.{submissions, order_for}
-use Rattle.td_feed.specs.Asked.{SeeNothing}
+use Rattle.td_orders.specs.declared.order.Order.{Order}
+use Rattle.td_orders.specs.declared.order.Order.TheVariants as order
+use Rattle.td_orders.specs.declared.at_once.Asked.{Asked}
+use Rattle.td_orders.specs.Orders.{order_for}
+use Rattle.td_orders.specs.Scripts.{SeeNothing}
 use Rattle.td_feed.specs.Held.{seen_after, then_seen, asked_seen, seen_with, told_seen, TellsSeen}
 use Rattle.td_feed.proofs.Held.{seen_append}
 
--- orders that say nothing, one after another
-pub see_nothing-append : (xs ys : List Order) → SeeNothing xs → SeeNothing ys → SeeNothing (xs ++ ys)
-see_nothing-append [] ys a b = b
-see_nothing-append (order.Submit batch ∷ xs) ys a b = see_nothing-append xs ys a b
-see_nothing-append (order.SubmitAs request batch ∷ xs) ys a b = see_nothing-append xs ys a b
-see_nothing-append (order.SubmitAt place request batch ∷ xs) ys a b = see_nothing-append xs ys a b
-see_nothing-append (order.Cut ∷ xs) ys a b = see_nothing-append xs ys a b
-see_nothing-append (order.Seen line epoch ∷ xs) ys a b = absurd a
-see_nothing-append (order.Answer vertex wanted ∷ xs) ys a b = see_nothing-append xs ys a b
-see_nothing-append (order.Copy copy ∷ xs) ys a b = see_nothing-append xs ys a b
-see_nothing-append (order.Say note ∷ xs) ys a b = see_nothing-append xs ys a b
-
--- one that submits an epoch says nothing
-pub submits_only : (o : Order) (s : Submitted) → submissions (o ∷ []) ≡ s ∷ [] → SeeNothing (o ∷ [])
-submits_only (order.Submit batch) s is = tt
-submits_only (order.SubmitAs request batch) s is = tt
-submits_only (order.SubmitAt place request batch) s is = tt
-submits_only order.Cut s is = tt
-submits_only (order.Seen line epoch) s is = let no = is in cc
-submits_only (order.Answer vertex wanted) s is = tt
-submits_only (order.Copy copy) s is = tt
-submits_only (order.Say note) s is = tt
-
--- and nothing more was seen then
+-- nothing more was seen after orders that say nothing
 pub nothing_seen : (orders : List Order) → SeeNothing orders → (last : ℕ) → seen_after last orders ≡ last
 nothing_seen [] none last = refl
 nothing_seen (order.Submit batch ∷ orders) none last = nothing_seen orders none last

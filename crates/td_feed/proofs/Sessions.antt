@@ -4,7 +4,7 @@ use Rattle.std.specs.Prelude.{Option, Some, None, Result, Ok, Err, OnOk, IfErr, 
 use Rattle.std.specs.Result.{IsErrAnd}
 use Rattle.std.proofs.lemmas.Result.{on_ok_weaker, on_err_weaker}
 use Rattle.td_calls.specs.Answers.{Answers}
-use Rattle.td_disk.specs.Disk.{DiskView, DiskState}
+use Rattle.td_disk.specs.Disk.{DiskView}
 use Rattle.td_journal.specs.declared.submitted.Submitted.{Submitted}
 use Rattle.td_machine.specs.State.{HallState}
 use Rattle.td_machine.specs.Active.{unpassed}
@@ -23,15 +23,15 @@ use Rattle.td_pool.specs.declared.error.PoolError.{PoolError}
 use Rattle.td_console.specs.declared.faults.Fault.{Fault}
 use Rattle.std.specs.Io.KnownBytes.{Appends}
 use Rattle.td_console.specs.declared.faults.Fault.TheVariants.{Keeper, Output, Memory}
-use Rattle.td_feed.specs.Noted.{note_line}
+use Rattle.td_orders.specs.Noted.{note_line}
 use Rattle.td_feed.specs.Carried.{batch_in, new_to, Carries, Leaves}
 use Rattle.td_feed.specs.Said.{answer_text, full_line, Says, SaysBy, Refuses}
-use Rattle.td_feed.specs.declared.note.Note.{Note}
+use Rattle.td_orders.specs.declared.note.Note.{Note}
 use Rattle.td_questions.specs.declared.question.Wanted.{Wanted as Of}
-use Rattle.td_feed.specs.Noted.{Aside, ComeOf, copied_in}
-use Rattle.td_feed.specs.Noted.Aside.{to_say, to_answer}
-use Rattle.td_feed.specs.Orders.{submissions, notes_in}
-use Rattle.td_feed.specs.Asked.{Script}
+use Rattle.td_orders.specs.Noted.{Aside, ComeOf, copied_in}
+use Rattle.td_orders.specs.Noted.Aside.{to_say, to_answer}
+use Rattle.td_orders.specs.Orders.{submissions, notes_in}
+use Rattle.td_orders.specs.Scripts.{Script}
 use Rattle.td_feed.specs.Copied.{Copied, MakesCopies}
 use Rattle.td_feed.specs.Session.{KeepsDisk, FeedsNoting, Feeds, FeedsCopying, FeedsScript, IsObeyed, IsNotObeyed}
 use Rattle.td_feed.proofs.Copies.{as_they_ask, none_yet, none_made}
@@ -283,7 +283,7 @@ module _ {D E : Type 0} {view : D → DiskView} {answers : Answers} {marks : Boo
       let x : List Submitted = new_to a (submissions s.orders) in
       let same = ok_only (obeyed ≡ Ok tt) (worked ≡ Ok tt) r ok in
       let noting = fed.fed.fed in record {
-        sound = ended_ok (s.is_sound ≡ true) tt obeyed r same fed.sound;
+        sound = ended_ok (s.fault ≡ None) tt obeyed r same fed.sound;
         fed = record {
           done = fed.fed.done;
           came = fed.fed.came;

@@ -3,7 +3,7 @@ use Rattle.std.proofs.Common.{◌≡◌, ◌⊎◌, ⊎_elim, inr, ℕ, ◌+◌,
 use Rattle.std.specs.Prelude.{Option, Some, None, if◌then◌else◌, Result, Ok, Err, IfOk, IfErr, OnErr}
 use Rattle.td_stamp.specs.declared.values.Entry.{Entry}
 use Rattle.td_calls.specs.Answers.{Answers}
-use Rattle.td_disk.specs.Disk.{DiskView, DiskState}
+use Rattle.td_disk.specs.Disk.{DiskView}
 use Rattle.td_journal.specs.declared.submitted.Submitted.{Submitted as AnySubmitted}
 use Rattle.td_store.specs.standing.Standing.{last_epoch, last_request, submission}
 use Rattle.td_store.specs.standing.Advanced.{SinceAdvance}
@@ -23,7 +23,7 @@ use Rattle.td_keeper.specs.Refused.{is_new, has_number, all_accepted, all_few}
 use Rattle.td_keeper.specs.Keeping.{Keeping, IsKeeping}
 use Rattle.td_keeper.specs.Driven.{submitted_in, may_write, Obeys, Rests}
 use Rattle.td_feed.specs.Carried.{Carries, Stopped, Leaves, batch_in, new_to, is_refused, is_repeated, is_resting, IsRising}
-use Rattle.td_feed.proofs.Newness.{new_one, old_one, all_new}
+use Rattle.td_orders.specs.OrderProofs.{new_one, old_one, all_new}
 use Rattle.td_feed.proofs.Carrying.{Stands-on, Cuts-on, unmoved, submitted, grouped, checkpointed, leaves_none, stopped_one, stopped_none, stopped_all}
 
 -- a reply that is none

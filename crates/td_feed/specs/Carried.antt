@@ -2,7 +2,7 @@
 use Rattle.std.specs.Prelude.{◌≡◌, ◌⊎◌, ℕ, ◌+◌, ◌≤◌, Bool, true, false, List, [], ◌∷◌, ◌++◌, length, take, Some}
 use Rattle.td_plan.specs.Lines.{Line}
 use Rattle.td_calls.specs.Answers.{Answers}
-use Rattle.td_disk.specs.Disk.{DiskView, DiskState}
+use Rattle.td_disk.specs.Disk.{DiskView}
 use Rattle.td_journal.specs.declared.submitted.Submitted.{Submitted}
 use Rattle.td_journal.specs.Numbers.{greatest}
 use Rattle.td_store.specs.group.Groups.{may_follow}
@@ -15,7 +15,7 @@ use Rattle.td_keeper.specs.declared.command.Command.TheVariants.{Submit, SubmitA
 use Rattle.td_keeper.specs.declared.command.Reply.{Reply}
 use Rattle.td_keeper.specs.declared.command.Reply.TheVariants.{Refused, RefusedAll}
 use Rattle.td_keeper.specs.declared.group.GroupError.TheVariants.{Repeated}
-use Rattle.td_feed.specs.Orders.{new_after}
+use Rattle.td_orders.specs.Orders.{new_after}
 use Rattle.td_feed.specs.Fed.{TellsHistory}
 
 -- a keeper's standing stands for a history

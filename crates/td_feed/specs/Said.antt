@@ -6,7 +6,7 @@ use Rattle.std.specs.Io.KnownBytes.{Appends}
 use Rattle.td_stamp.specs.declared.epoch_out.EpochOut.{EpochOut}
 use Rattle.td_plan.specs.Lines.{Line as PlanLine}
 use Rattle.td_calls.specs.Answers.{Answers}
-use Rattle.td_disk.specs.Disk.{DiskView, DiskState, Rises, IsDurable}
+use Rattle.td_disk.specs.Disk.{DiskView, Rises, IsDurable}
 use Rattle.td_gate.specs.CrashSafe.{CrashSafe, Unchanged}
 use Rattle.td_journal.specs.declared.submitted.Submitted.{Submitted as AnySubmitted}
 use Rattle.td_watch.specs.View.{View}
@@ -24,14 +24,14 @@ use Rattle.td_keeper.specs.declared.command.Command.TheVariants.{SubmitAs, Answe
 use Rattle.td_keeper.specs.declared.receipt.Receipt.TheVariants.{New, Already}
 use Rattle.td_keeper.specs.Keeping.{Keeping, IsKeeping, IsFreshlyOpened}
 use Rattle.td_keeper.specs.Driven.{submitted_by, AcknowledgesUpTo, Driven}
-use Rattle.td_feed.specs.declared.note.Note.{Note}
+use Rattle.td_orders.specs.declared.note.Note.{Note}
 use Rattle.td_questions.specs.declared.question.Wanted.{Wanted as Of}
 use Rattle.td_questions.specs.Lines.{answer_lines}
-use Rattle.td_feed.specs.Noted.{Aside, ComeOf, copied_in, note_line}
-use Rattle.td_feed.specs.Noted.Aside.{to_say, to_answer, to_copy}
+use Rattle.td_orders.specs.Noted.{Aside, ComeOf, copied_in, note_line}
+use Rattle.td_orders.specs.Noted.Aside.{to_say, to_answer, to_copy}
 use Rattle.td_head.specs.Layout.{Sizes}
 use Rattle.td_feed.specs.Carried.{new_to, is_refused}
-use Rattle.td_feed.specs.Shown.{IsRefusedAs}
+use Rattle.td_report.specs.Shown.{IsRefusedAs}
 use Rattle.td_console.specs.Answer.{output_text}
 use Rattle.td_console.specs.declared.faults.Fault.{Fault}
 use Rattle.td_console.specs.declared.faults.Fault.TheVariants.{Memory, Output, Keeper as AsKeeper}

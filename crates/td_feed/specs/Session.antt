@@ -2,7 +2,7 @@
 use Rattle.std.specs.Prelude.{◌≡◌, ◌⊎◌, ℕ, Bool, false, true, List, [], ◌∷◌, ◌++◌, length, All, Option, Some, None, Result, Ok, OnOk, OnErr, IsErr}
 use Rattle.td_plan.specs.Lines.{Line as PlanLine}
 use Rattle.td_calls.specs.Answers.{Answers}
-use Rattle.td_disk.specs.Disk.{DiskView, DiskState}
+use Rattle.td_disk.specs.Disk.{DiskView}
 use Rattle.td_journal.specs.declared.submitted.Submitted.{Submitted as AnySubmitted}
 use Rattle.td_journal.specs.Numbers.{greatest}
 use Rattle.td_store.specs.declared.standing.error.KeeperError.TheVariants.{Device}
@@ -16,10 +16,10 @@ use Rattle.td_keeper.specs.Driven.{submitted_in, Obeys, Driven}
 use Rattle.td_console.specs.declared.faults.Fault.{Fault}
 use Rattle.td_console.specs.declared.faults.Fault.TheVariants.{Keeper}
 use Rattle.td_feed.specs.declared.streaming.StreamOptions.{StreamOptions}
-use Rattle.td_feed.specs.Noted.{Aside, ComeOf, copied_in}
-use Rattle.td_feed.specs.Orders.{submissions, notes_in, new_after}
-use Rattle.td_feed.specs.Asked.{Script, script_of}
-use Rattle.td_feed.specs.Placed.{placed}
+use Rattle.td_orders.specs.Noted.{Aside, ComeOf, copied_in}
+use Rattle.td_orders.specs.Orders.{submissions, notes_in, new_after}
+use Rattle.td_orders.specs.Scripts.{Script, script_of}
+use Rattle.td_orders.specs.Placed.{placed}
 use Rattle.td_feed.specs.Fed.{EachTellsHistory, EachTellsSome}
 use Rattle.td_feed.specs.Held.{TellsSeen, first_seen, seen_after}
 use Rattle.td_feed.specs.Carried.{batch_in, new_to, is_refused, Carries, Leaves}
@@ -93,9 +93,9 @@ module _ {D : Type 0} (view : D → DiskView) (answers : Answers) (marks : Bool)
   -- and a gap is one, unless epochs are refused. Of a stream that refuses epochs, one may have so many records
   pub record StreamsDisk (how : StreamOptions) (result : Result (Unit {0}) Fault) (plan : List PlanLine) (alone : Bool) (disk left : D) (before after : Option (List ℕ)) (input : List ℕ) : Type 0 where
     pub records : ℕ
-    pub sound : OnOk result ((script_by how records plan input).is_sound ≡ true)
+    pub sound : OnOk result ((script_by how records plan input).fault ≡ None)
     pub no_gap : OnOk result ((view disk).lawful → (history : List AnySubmitted) → EachTellsHistory answers plan history (view disk).state
-        → (placed how.refuse (length history) (greatest 0 history) (script_by how records plan input)).is_sound ≡ true)
+        → (placed how.refuse (length history) (greatest 0 history) (script_by how records plan input)).fault ≡ None)
     pub fed : FeedsDisk result plan alone disk left before after (wanted_of how records plan input)
     -- where outputs are held, nothing is kept beyond the last epoch that the input says was seen, whatever a crash leaves: so each later
     -- stream writes again the outputs of every epoch after it
@@ -131,7 +131,7 @@ module _ {D E : Type 0} (view : D → DiskView) (answers : Answers) (marks : Boo
   -- A SCRIPT IS FED, those of its batches that are new to the keeper, and what it asks for beside is done; and Ok is answered only to one
   -- without a fault
   pub record FeedsScript (result : Result (Unit {0}) Fault) (before after : Option (List ℕ)) (had has : Option (List (Copied E))) (old new : Keeping D) (script : Script) : Type 0 where
-    pub sound : OnOk result (script.is_sound ≡ true)
+    pub sound : OnOk result (script.fault ≡ None)
     pub fed : FeedsCopying result before after had has old new (new_to old (submissions script.orders)) (notes_in script.orders)
 
   -- COPIES OF A DISK WERE MADE, those of which the lines say so, and are kept: each is of the history for which the disk stood, with what is

@@ -2,15 +2,15 @@
 //!
 //! It reads no line while tasks run, so a second thread would only wait in turn. A feed starts its workers in threads whatever
 //! their number.
-ghost use Rattle.std.specs.Prelude.{◌≡◌, false, None, IfSome, OnOk};
+ghost use Rattle.std.specs.Prelude.{◌≡◌, false, None, IfErr, IfSome, OnOk};
 ghost use Rattle.td_plan.specs.Blocks.{vertices};
 ghost use Rattle.td_calls.specs.Fits.{first_lack};
 ghost use Rattle.td_store.specs.standing.Standing.{last_epoch, last_request};
+ghost use Rattle.td_feed.specs.Caused.{IsOfStream};
 ghost use Rattle.td_feed.specs.Held.{KeepsTo, TellsSeen, seen_at, then_seen};
 ghost use Rattle.td_feed.specs.Said.{IsAllOut};
 ghost use Rattle.td_feed.specs.Session.{KeepsDisk, FeedsScript};
 
-use crate::asking::Asking;
 use crate::host::Host;
 use crate::in_turn::{ended_as, obey_each};
 use crate::under_way::{Feeding, is_at_last_number};
@@ -22,6 +22,7 @@ use td_console::Fault;
 use td_core::HallError;
 use td_disk::Disk;
 use td_keeper::{Engine, Keeper};
+use td_orders::Asking;
 use td_pool::PoolError;
 use td_store::standing::KeeperError;
 
@@ -54,6 +55,7 @@ pub(crate) fn obey_alone<
     ensures all_out { OnOk result.1 (IsAllOut result.0) }
     ensures held { IfSome (S.script (last_epoch keeper.standing) (last_request keeper.standing) orders) (λ script. KeepsTo (then_seen (seen_at feeding.pace keeper.standing.epoch) script.orders) keeper result.0) }
     ensures seen { IfSome (S.script (last_epoch keeper.standing) (last_request keeper.standing) orders) (λ script. TellsSeen result.1 (seen_at feeding.pace keeper.standing.epoch) script.orders (H.seen host.old) (H.seen host.new)) }
+    ensures fault { IfSome (S.script (last_epoch keeper.standing) (last_request keeper.standing) orders) (λ script. IfErr result.1 (IsOfStream (S.overlong orders) script W.HasRoom)) }
 {
     if is_at_last_number(&keeper) {
         return (keeper, Err(Fault::Keeper(KeeperError::Epochs)));

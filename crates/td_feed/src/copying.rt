@@ -4,12 +4,12 @@
 ghost use Rattle.std.specs.Prelude.{◌≡◌, ◌⊎◌, ◌+◌, ◌^◌, ◌<◌, Bool, false, [], ◌∷◌, length, None, IfOk, OnErr, IfErr};
 ghost use Rattle.td_store.specs.standing.Standing.{last_epoch};
 ghost use Rattle.td_store.specs.standing.Tells.{Keeps, first_head};
+ghost use Rattle.td_feed.specs.Caused.{IsOfWriter};
 ghost use Rattle.td_feed.specs.Copied.{with_copies};
-ghost use Rattle.td_feed.specs.Noted.Aside.{to_copy};
+ghost use Rattle.td_orders.specs.Noted.Aside.{to_copy};
 ghost use Rattle.td_feed.specs.Session.{FeedsCopying};
 
 use crate::host::{Host, Why};
-use crate::order::CopyTo;
 use crate::saying::{say_copied, say_not_copied};
 use std::alloc::Global;
 use td_calls::Law;
@@ -17,6 +17,7 @@ use td_console::{Fault, Sink};
 use td_disk::Disk;
 use td_keeper::Keeper;
 use td_keeper::laws::each_disk_holds;
+use td_orders::CopyTo;
 use td_store::copy::laws::told_rises;
 use td_store::copy::{check_room, write_told};
 use td_store::standing::{Recovered, laws};
@@ -35,6 +36,7 @@ pub(crate) fn copy_aloud<D: Disk, L: Law, H: Host, W: Sink>(
         (H.copies host.old) (H.copies host.new) keeper.now keeper.now [] (to_copy copy.now.name copy.now.shape None ∷ []) }
     ensures seen { H.seen host.new ≡ H.seen host.old }
     ensures refusals { IfErr result (λ f. (f ≡ Fault.Output) ⊎ (f ≡ Fault.Memory)) }
+    ensures fault { IfErr result (IsOfWriter W.HasRoom) }
 {
     laws::told_in_parts();
     match copied(alloc, keeper, copy, host) {

@@ -5,11 +5,10 @@
 ghost use Rattle.std.specs.Prelude.{◌≡◌, ℕ, [], ◌∷◌, List, Option, Some, None};
 ghost use Rattle.td_feed.specs.Copied.{Copied, with_copies, why_text};
 
-use crate::file_name::FileName;
-use crate::order::CopyTo;
 use std::alloc::{AllocError, AllocFailed, Global};
 use std::fmt;
 use td_disk::{Disk, MemoryDisk};
+use td_orders::{CopyTo, FileName};
 use td_store::copy::CopyError;
 
 /// Why a copy was not made.

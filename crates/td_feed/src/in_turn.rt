@@ -3,16 +3,15 @@ ghost use Rattle.std.specs.Prelude.{◌≡◌, ℕ, true, false, Ok, Err, IfOk, 
 ghost use Rattle.td_pool.specs.declared.error.PoolError.{PoolError as AnyPoolError};
 ghost use Rattle.td_store.specs.declared.standing.error.KeeperError.TheVariants.{NotPassed};
 ghost use Rattle.td_store.specs.standing.Standing.{last_epoch, last_request};
-ghost use Rattle.td_feed.specs.Asked.{is_of_reader};
+ghost use Rattle.td_orders.specs.Scripts.{is_of_reader};
+ghost use Rattle.td_feed.specs.Caused.{IsOfAsked, IsOfStream};
 ghost use Rattle.td_feed.specs.Fed.{pool_fault};
 ghost use Rattle.td_feed.specs.Held.{KeepsTo, TellsSeen, seen_at, then_seen, seen_with, told_seen};
 ghost use Rattle.td_feed.specs.Said.{IsAllOut};
 ghost use Rattle.td_feed.specs.Session.{KeepsDisk, FeedsScript};
 
-use crate::asking::Asking;
-use crate::at_once::{Asked, Room};
 use crate::host::Host;
-use crate::order::Order;
+use crate::room::room_of;
 use crate::under_way::{Feeding, open_epochs, settle};
 use crate::voice::Voice;
 use std::alloc::Global;
@@ -22,6 +21,7 @@ use td_console::{Fault, LineFault};
 use td_core::HallError;
 use td_disk::Disk;
 use td_keeper::{Keeper, Obey};
+use td_orders::{Asked, Asking, Order};
 use td_pool::PoolError;
 use td_store::standing::KeeperError;
 
@@ -45,6 +45,9 @@ pub(crate) fn obey_each<D: Disk, S: Asking, W: Voice, H: Host, L: Law, R: Wait, 
     // Where outputs are held, nothing is kept beyond what the script says was seen.
     ensures held { IfSome (S.script (last_epoch (E.keeping engine.old).standing) (last_request (E.keeping engine.old).standing) orders.old) (λ script. KeepsTo (then_seen (seen_at feeding.pace (E.keeping engine.old).standing.epoch) script.orders) (E.keeping engine.old) (E.keeping engine.new)) }
 
+    // A line's fault is the script's, and a writer with room does not fail.
+    ensures fault { IfSome (S.script (last_epoch (E.keeping engine.old).standing) (last_request (E.keeping engine.old).standing) orders.old) (λ script. IfErr result (IsOfStream (S.overlong orders.old) script W.HasRoom)) }
+
     // And the host is told what was seen.
     ensures seen { IfSome (S.script (last_epoch (E.keeping engine.old).standing) (last_request (E.keeping engine.old).standing) orders.old) (λ script. TellsSeen result (seen_at feeding.pace (E.keeping engine.old).standing.epoch) script.orders (H.seen host.old) (H.seen host.new)) }
 {
@@ -58,7 +61,7 @@ pub(crate) fn obey_each<D: Disk, S: Asking, W: Voice, H: Host, L: Law, R: Wait, 
     for _asked in rt.forever() {
         let keeper = engine.keeper();
         let most = feeding.pace.epochs_at_once(keeper);
-        let room = Room::of(keeper, most);
+        let room = room_of(keeper, most);
         let Some(asked) = orders.next_asked(alloc, &room)? else {
             return settle(rt, alloc, engine, writer);
         };
@@ -90,6 +93,7 @@ fn seen_with<D: Disk, L: Law>(
 ) -> Result<Option<u64>, Fault>
     ensures ok { IfOk result (λ next. next ≡ seen_with seen asked.now) }
     ensures err { IfErr result (λ f. is_of_reader f ≡ true) }
+    ensures fault { IfErr result (IsOfAsked asked.now) }
 {
     let Some(last) = seen else {
         return Ok(None);

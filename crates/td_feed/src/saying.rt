@@ -6,16 +6,17 @@
 ghost use Rattle.std.specs.Prelude.{◌≡◌, ◌⊎◌, ◌-◌, ◌++◌, string_bytes, IfOk, IfErr, OnOk};
 ghost use Rattle.std.specs.Io.KnownBytes.{Appends};
 ghost use Rattle.td_questions.specs.Lines.{answer_lines};
+ghost use Rattle.td_feed.specs.Caused.{IsOfWriter};
 ghost use Rattle.td_feed.specs.Said.{line_of as line_in, ack_line, ack_lines, answer_text, full_line, copied_line, not_copied_line, out_lines, request_in};
 ghost use Rattle.td_feed.specs.Copied.{why_text};
 
-use crate::file_name::FileName;
 use crate::host::Why;
 use crate::voice::Voice;
 use std::alloc::Global;
 use std::fmt::Write;
 use td_console::{Fault, Sink, print_epoch, write_answer};
 use td_keeper::{Command, Receipt, Reply};
+use td_orders::FileName;
 use td_questions::{Entry, Wanted, print_answer};
 use td_stamp::EpochOut;
 
@@ -29,6 +30,7 @@ pub(crate) fn say<W: Voice>(
 ) -> Result<(), Fault>
     ensures said { OnOk result (Appends (W.contents writer.old) (W.contents writer.new) (line_in W.marks request reply.now)) }
     ensures unsaid { IfErr result (λ f. (f ≡ Fault.Output) ⊎ ((f ≡ Fault.Memory) × (writer.new ≡ writer.old))) }
+    ensures fault { IfErr result (IsOfWriter W.HasRoom) }
 {
     let line = line_of(alloc, request, reply, writer.is_marking())?;
     write_answer(writer, line.as_str())
@@ -44,6 +46,7 @@ pub(crate) fn say_answer<W: Voice>(
 ) -> Result<(), Fault>
     ensures said { OnOk result (Appends (W.contents writer.old) (W.contents writer.new) (answer_text vertex wanted reply.now)) }
     ensures unsaid { IfErr result (λ f. (f ≡ Fault.Output) ⊎ ((f ≡ Fault.Memory) × (writer.new ≡ writer.old))) }
+    ensures fault { IfErr result (IsOfWriter W.HasRoom) }
 {
     let lines = answer_text(alloc, vertex, wanted, reply)?;
     write_answer(writer, lines.as_str())
@@ -85,6 +88,7 @@ fn print_entries(
 pub(crate) fn say_full<W: Voice>(alloc: Global, epoch: u64, writer: &mut W) -> Result<(), Fault>
     ensures said { OnOk result (Appends (W.contents writer.old) (W.contents writer.new) (full_line epoch)) }
     ensures unsaid { IfErr result (λ f. (f ≡ Fault.Output) ⊎ ((f ≡ Fault.Memory) × (writer.new ≡ writer.old))) }
+    ensures fault { IfErr result (IsOfWriter W.HasRoom) }
 {
     let line = format!(in alloc; "full {epoch}\n")?;
     write_answer(writer, line.as_str())
@@ -99,6 +103,7 @@ pub(crate) fn say_copied<W: Sink>(
 ) -> Result<(), Fault>
     ensures said { OnOk result (Appends (W.contents writer.old) (W.contents writer.new) (copied_line name.now epoch)) }
     ensures unsaid { IfErr result (λ f. (f ≡ Fault.Output) ⊎ ((f ≡ Fault.Memory) × (writer.new ≡ writer.old))) }
+    ensures fault { IfErr result (IsOfWriter W.HasRoom) }
 {
     let line = format!(in alloc; "copied {name} {epoch}\n")?;
     write_answer(writer, line.as_str())
@@ -113,6 +118,7 @@ pub(crate) fn say_not_copied<W: Sink>(
 ) -> Result<(), Fault>
     ensures said { OnOk result (Appends (W.contents writer.old) (W.contents writer.new) (not_copied_line name.now (why_text why.now))) }
     ensures unsaid { IfErr result (λ f. (f ≡ Fault.Output) ⊎ ((f ≡ Fault.Memory) × (writer.new ≡ writer.old))) }
+    ensures fault { IfErr result (IsOfWriter W.HasRoom) }
 {
     let line = format!(in alloc; "not copied {name}: {why}\n")?;
     write_answer(writer, line.as_str())

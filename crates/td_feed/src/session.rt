@@ -3,7 +3,8 @@
 //! A program makes a session for its plan and its closures, and feeds and streams one disk after another by it.
 ghost use Rattle.std.specs.Prelude.{◌≡◌, ◌≤◌, ◌==◌, [], ◌∷◌, false, None, OnOk, IfErr, IfSome, IsErr, Err};
 ghost use Rattle.td_console.specs.Answer.{lack_fault};
-ghost use Rattle.td_feed.specs.Orders.{orders_of, submitted_by};
+ghost use Rattle.td_orders.specs.Orders.{orders_of, submitted_by};
+ghost use Rattle.td_feed.specs.Caused.{IsRefusedFor};
 ghost use Rattle.td_feed.specs.Said.{epochs_alone};
 ghost use Rattle.td_feed.specs.Session.{KeepsDisk, FeedsDisk, StreamsCopying, SeesOrNot};
 ghost use Rattle.td_feed.specs.Working.{lack_of};
@@ -163,7 +164,9 @@ impl<'a, L: Law + Send + Sync, C: Closures<L> + Sync, R: Threads + Wait + Sync> 
 
         // A missing closure comes first: nothing was written.
         ensures lack { IfSome (lack_of C.has_map C.has_group C.has_fold self.now) (λ lack. (result.1 ≡ Err (lack_fault lack)) × (result.0 ≡ disk) × (writer.new ≡ writer.old) × (host.new ≡ host.old)) }
-        ensures fits { OnOk result.1 (lack_of C.has_map C.has_group C.has_fold self.now ≡ None) }
+
+        // A line's fault is the input's, and a writer with room does not fail.
+        ensures fault { IfSome (I.remaining reader) (λ input. IsRefusedFor D.view L.answers W.HasRoom options result.1 self.now.plan disk input) }
 
         // What the input asks for is fed, by one worker until all outputs went out; and the host is told what was seen.
         ensures fed { lack_of C.has_map C.has_group C.has_fold self.now ≡ None → IfSome (I.remaining reader) (λ input. StreamsCopying D.view L.answers W.marks H.New.view options result.1 self.now.plan (self.now.workers == 1) disk result.0 (W.contents writer.old) (W.contents writer.new) (H.copies host.old) (H.copies host.new) input) }

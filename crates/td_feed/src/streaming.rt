@@ -3,19 +3,20 @@
 //! The caller makes the watch and follows it, so no clock is needed here. Its writer begins with zeros, which are above no
 //! keeper's words. A stream ends at `most` after the put and not before. To refuse an epoch before it is on the disk, its `ack`
 //! would wait for its tasks.
-ghost use Rattle.std.specs.Prelude.{◌≡◌, ◌==◌, ◌≤◌, [], ◌∷◌, Option, true, false, None, OnOk, IfSome, Err};
+ghost use Rattle.std.specs.Prelude.{◌≡◌, ◌==◌, ◌≤◌, [], ◌∷◌, Option, true, false, None, OnOk, IfErr, IfSome, Err};
 ghost use Rattle.td_plan.specs.Blocks.{vertices};
 ghost use Rattle.td_calls.specs.Fits.{first_lack};
 ghost use Rattle.td_watch.specs.View.{View};
 ghost use Rattle.td_console.specs.Answer.{lack_fault};
 ghost use Rattle.td_store.specs.standing.Standing.{last_epoch, last_request};
-ghost use Rattle.td_feed.specs.Placed.{placed};
+ghost use Rattle.td_orders.specs.Lines.{has_overlong};
+ghost use Rattle.td_orders.specs.Placed.{placed};
+ghost use Rattle.td_feed.specs.Caused.{IsOfStream, IsRefusedFor};
 ghost use Rattle.td_feed.specs.Held.{KeepsTo, TellsSeen, first_seen, then_seen};
 ghost use Rattle.td_feed.specs.Said.{IsAllOut};
 ghost use Rattle.td_feed.specs.Session.{limit_of, script_by, KeepsDisk, FeedsScript, StreamsCopying, SeesOrNot};
 
 use crate::alone::obey_alone;
-use crate::asking::Streamed;
 use crate::host::Host;
 use crate::under_way::{Feeding, Pace, open};
 use crate::voice::Voice;
@@ -30,6 +31,7 @@ use td_console::{Fault, Source, lack_fault};
 use td_disk::Disk;
 use td_keeper::Keeper;
 use td_keeper::laws::{driven_keeps_to_its_base, each_is_kept, each_keeps_to_its_base};
+use td_orders::Streamed;
 use td_plan::Plan;
 use td_pool::NewCourse;
 use td_store::standing::laws;
@@ -84,7 +86,9 @@ pub(crate) fn stream<
     // A missing closure comes first: nothing was written.
     ensures lack { IfSome (first_lack (C.has_map calls.now) (C.has_group calls.now) (C.has_fold calls.now) (vertices plan.now)) (λ lack.
         (result.1 ≡ Err (lack_fault lack)) × (result.0 ≡ disk) × (writer.new ≡ writer.old) × (host.new ≡ host.old)) }
-    ensures fits { OnOk result.1 (first_lack (C.has_map calls.now) (C.has_group calls.now) (C.has_fold calls.now) (vertices plan.now) ≡ None) }
+
+    // A line's fault is the input's, and a writer with room does not fail.
+    ensures fault { IfSome (I.remaining reader) (λ input. IsRefusedFor D.view L.answers W.HasRoom options result.1 plan.now disk input) }
 
     // What the input asks for is fed, by one worker until all outputs went out.
     ensures fed { first_lack (C.has_map calls.now) (C.has_group calls.now) (C.has_fold calls.now) (vertices plan.now) ≡ None
@@ -176,6 +180,8 @@ fn obey<
         (placed options.refuse (last_epoch keeper.standing) (last_request keeper.standing) (script_by options keeper.head.shape.m plan.now input)).orders) keeper result.0) }
     ensures seen { IfSome (I.remaining reader) (λ input. TellsSeen result.1 (first_seen options.hold keeper.standing.epoch)
         (placed options.refuse (last_epoch keeper.standing) (last_request keeper.standing) (script_by options keeper.head.shape.m plan.now input)).orders (H.seen host.old) (H.seen host.new)) }
+    ensures fault { IfSome (I.remaining reader) (λ input. IfErr result.1 (IsOfStream (has_overlong (I.remaining reader))
+        (placed options.refuse (last_epoch keeper.standing) (last_request keeper.standing) (script_by options keeper.head.shape.m plan.now input)) W.HasRoom)) }
 {
     let feeding = Feeding::new(Pace::Live {
         every: options.cut_every,

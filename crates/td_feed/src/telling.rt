@@ -4,9 +4,10 @@
 ghost use Rattle.std.specs.Prelude.{◌≡◌, ◌⊎◌, [], ◌∷◌, true, false, IfOk, IfErr, OnOk, OnErr};
 ghost use Rattle.td_keeper.specs.declared.command.Reply.{Reply as AnyReply};
 ghost use Rattle.td_keeper.specs.Driven.{Obeys, ComesOf};
+ghost use Rattle.td_feed.specs.Caused.{is_of_keeper, IsOfWriter};
 ghost use Rattle.td_feed.specs.Carried.{batch_in, new_to, is_refused, is_repeated, is_resting, IsRising, Carries};
 ghost use Rattle.td_feed.specs.Held.{SameBase, MovesBase};
-ghost use Rattle.td_feed.specs.Noted.Aside.{to_answer};
+ghost use Rattle.td_orders.specs.Noted.Aside.{to_answer};
 ghost use Rattle.td_feed.specs.Said.{fault_in};
 ghost use Rattle.td_feed.specs.Session.{KeepsDisk, FeedsNoting, Feeds, IsObeyed, IsNotObeyed};
 
@@ -35,6 +36,7 @@ pub(crate) fn tell<D: Disk, L: Law, R, E: Obey<D, L, R>>(
     ensures refused { OnErr result (IsNotObeyed D.view L.answers command (E.keeping engine.old) (E.keeping engine.new)) }
     ensures rests { is_resting command ≡ true → Carries L.answers (E.keeping engine.old) (E.keeping engine.new) [] }
     ensures base { MovesBase command (E.keeping engine.old) (E.keeping engine.new) }
+    ensures fault { IfErr result (λ f. is_of_keeper f ≡ true) }
 {
     laws::advance_stands::<L>();
     laws::standings_advance::<L>();
@@ -61,6 +63,7 @@ pub(crate) fn tell_aloud<D: Disk, L: Law, R, E: Obey<D, L, R>, W: Voice>(
 
     // Nothing is written but for a command that was obeyed.
     ensures acknowledged { (writer.new ≡ writer.old) ⊎ Carries L.answers (E.keeping engine.old) (E.keeping engine.new) (new_to (E.keeping engine.old) (batch_in command)) }
+    ensures fault { IfErr result (IsOfWriter W.HasRoom) }
 {
     let request = request_in(&command);
     let reply = tell(rt, engine, command)?;
@@ -81,6 +84,7 @@ pub(crate) fn answer_aloud<D: Disk, L: Law, R, E: Obey<D, L, R>, W: Voice>(
     ensures disk { KeepsDisk D.view result (E.keeping engine.old).device (E.keeping engine.new).device }
     ensures fed { FeedsNoting D.view L.answers W.marks result (W.contents writer.old) (W.contents writer.new) (E.keeping engine.old) (E.keeping engine.new) [] (to_answer vertex wanted ∷ []) }
     ensures base { SameBase (E.keeping engine.old) (E.keeping engine.new) }
+    ensures fault { IfErr result (IsOfWriter W.HasRoom) }
 {
     let reply = tell(rt, engine, Command::Answer(vertex, wanted))?;
     say_answer(alloc, vertex, wanted, &reply, writer)

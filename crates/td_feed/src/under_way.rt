@@ -9,7 +9,8 @@ ghost use Rattle.td_keeper.specs.declared.command.Command.TheVariants.{NextOut};
 ghost use Rattle.td_keeper.specs.declared.command.Reply.TheVariants.{Out};
 ghost use Rattle.td_keeper.specs.Driven.{Driven};
 ghost use Rattle.td_store.specs.standing.Standing.{last_request};
-ghost use Rattle.td_feed.specs.Asked.{asked_for, notes_for, MayFollow};
+ghost use Rattle.td_orders.specs.Scripts.{asked_for, notes_for, MayFollow};
+ghost use Rattle.td_feed.specs.Caused.{is_of_keeper, IsOfWriter};
 ghost use Rattle.td_feed.specs.Fed.{hall_fault};
 ghost use Rattle.td_feed.specs.Held.{SameBase, KeepsTo, MovesBase, seen_at, cut_for};
 ghost use Rattle.td_feed.specs.Carried.{batch_in, new_to, IsRising, Carries};
@@ -17,11 +18,8 @@ ghost use Rattle.td_feed.specs.Said.{IsAllOut};
 ghost use Rattle.td_feed.specs.Session.{KeepsDisk, Feeds, FeedsCopying};
 ghost use Rattle.td_keeper.specs.Keeping.{since_base};
 
-use crate::at_once::Asked;
 use crate::copying::copy_aloud;
 use crate::host::Host;
-use crate::note::write_note;
-use crate::order::Order;
 use crate::saying::{print_out, say_full};
 use crate::telling::{answer_aloud, tell, tell_aloud};
 use crate::voice::Voice;
@@ -31,7 +29,8 @@ use td_console::{Fault, Sink, write_answer};
 use td_core::{Hall, HallError};
 use td_disk::Disk;
 use td_keeper::laws::each_at_work_is_kept;
-use td_keeper::{Command, Keeper, Obey};
+use td_keeper::{Command, Group, Keeper, Obey};
+use td_orders::{Asked, Order, write_note};
 use td_plan::Plan;
 use td_stamp::{EPOCHS_END, EpochOut};
 use td_store::standing::KeeperError;
@@ -149,10 +148,11 @@ impl Feeding {
         ensures fed { FeedsCopying D.view L.answers W.marks H.New.view result (W.contents writer.old) (W.contents writer.new) (H.copies host.old) (H.copies host.new) (E.keeping engine.old) (E.keeping engine.new) (new_to (E.keeping engine.old) (asked_for asked)) (notes_for asked) }
         ensures held { KeepsTo seen (E.keeping engine.old) (E.keeping engine.new) }
         ensures seen { H.seen host.new ≡ H.seen host.old }
+        ensures fault { IfErr result (IsOfWriter W.HasRoom) }
     {
         match asked {
             Asked::Epochs(group) => {
-                let command = Command::SubmitAll(group);
+                let command = Command::SubmitAll(Group::from_vec(group));
                 self.submit(rt, alloc, engine, command, writer)
             }
             Asked::One(order) => match order {
@@ -201,6 +201,7 @@ impl Feeding {
         // Nothing is written but for a batch that is on the disk.
         ensures acknowledged { (writer.new ≡ writer.old) ⊎ Carries L.answers (E.keeping engine.old) (E.keeping engine.new) (new_to (E.keeping engine.old) (batch_in command)) }
         ensures base { MovesBase command (E.keeping engine.old) (E.keeping engine.new) }
+        ensures fault { IfErr result (IsOfWriter W.HasRoom) }
     {
         let before = engine.keeper().last_epoch();
         tell_aloud(rt, alloc, engine, command, writer)?;
@@ -231,6 +232,7 @@ impl Feeding {
         ensures disk { KeepsDisk D.view result (E.keeping engine.old).device (E.keeping engine.new).device }
         ensures fed { Feeds D.view L.answers W.marks result (W.contents writer.old) (W.contents writer.new) (E.keeping engine.old) (E.keeping engine.new) [] }
         ensures held { KeepsTo seen (E.keeping engine.old) (E.keeping engine.new) }
+        ensures fault { IfErr result (IsOfWriter W.HasRoom) }
     {
         match self.pace {
             Pace::AtEnd => release(rt, engine),
@@ -255,6 +257,7 @@ impl Feeding {
         ensures fed { FeedsCopying D.view L.answers W.marks H.New.view result (W.contents writer.old) (W.contents writer.new) (H.copies host.old) (H.copies host.new) (E.keeping engine.old) (E.keeping engine.new) (new_to (E.keeping engine.old) (asked_for asked)) (notes_for asked) }
         ensures held { KeepsTo seen (E.keeping engine.old) (E.keeping engine.new) }
         ensures seen { H.seen host.new ≡ H.seen host.old }
+        ensures fault { IfErr result (IsOfWriter W.HasRoom) }
     {
         self.obey(rt, alloc, engine, asked, seen, writer, host)?;
         self.keep_pace(rt, alloc, engine, seen, writer)
@@ -274,6 +277,7 @@ impl Feeding {
         ensures disk { KeepsDisk D.view result (E.keeping engine.old).device (E.keeping engine.new).device }
         ensures fed { Feeds D.view L.answers W.marks result (W.contents writer.old) (W.contents writer.new) (E.keeping engine.old) (E.keeping engine.new) [] }
         ensures held { KeepsTo seen (E.keeping engine.old) (E.keeping engine.new) }
+        ensures fault { IfErr result (IsOfWriter W.HasRoom) }
     {
         match self.pace {
             Pace::AtEnd => Ok(()),
@@ -299,6 +303,7 @@ impl Feeding {
         ensures disk { KeepsDisk D.view result (E.keeping engine.old).device (E.keeping engine.new).device }
         ensures fed { Feeds D.view L.answers W.marks result (W.contents writer.old) (W.contents writer.new) (E.keeping engine.old) (E.keeping engine.new) [] }
         ensures held { KeepsTo seen (E.keeping engine.old) (E.keeping engine.new) }
+        ensures fault { IfErr result (IsOfWriter W.HasRoom) }
     {
         if is_cut_due(engine.keeper(), every, seen) {
             self.cut(rt, alloc, engine, seen, writer)
@@ -319,6 +324,7 @@ impl Feeding {
         // Nothing is written, whatever the writer is.
         ensures fed { (marks : Bool) (held : Option (List ℕ)) → Feeds D.view L.answers marks result held held (E.keeping engine.old) (E.keeping engine.new) [] }
         ensures base { SameBase (E.keeping engine.old) (E.keeping engine.new) }
+        ensures fault { IfErr result (λ f. is_of_keeper f ≡ true) }
     {
         if self.freed == 0 {
             return Ok(());
@@ -343,6 +349,7 @@ impl Feeding {
         ensures fed { Feeds D.view L.answers W.marks result (W.contents writer.old) (W.contents writer.new) (E.keeping engine.old) (E.keeping engine.new) [] }
         ensures written { OnOk result ((E.keeping engine.new).waiting ≡ false) }
         ensures held { KeepsTo seen (E.keeping engine.old) (E.keeping engine.new) }
+        ensures fault { IfErr result (IsOfWriter W.HasRoom) }
     {
         settle(rt, alloc, engine, writer)?;
         tell(rt, engine, cut_command(seen))?;
@@ -361,6 +368,7 @@ fn release<D: Disk, L: Law, R, E: Obey<D, L, R>>(rt: &R, engine: &mut E) -> Resu
     ensures rests { Carries L.answers (E.keeping engine.old) (E.keeping engine.new) [] }
     ensures own { E.alone ≡ true → OnOk result ((E.hall engine.new).batches ≡ since_base (E.keeping engine.new)) }
     ensures base { SameBase (E.keeping engine.old) (E.keeping engine.new) }
+    ensures fault { IfErr result (λ f. is_of_keeper f ≡ true) }
 {
     tell(rt, engine, Command::Release)?;
     Ok(())
@@ -380,6 +388,7 @@ pub(crate) fn settle<D: Disk, L: Law, R, E: Obey<D, L, R>, W: Voice>(
     ensures none_left { OnOk result ((E.keeping engine.new).queue ≡ []) }
     ensures all_out { E.alone ≡ true → OnOk result (IsAllOut (E.keeping engine.new)) }
     ensures base { SameBase (E.keeping engine.old) (E.keeping engine.new) }
+    ensures fault { IfErr result (IsOfWriter W.HasRoom) }
 {
     release(rt, engine)?;
     tell(rt, engine, Command::Settle)?;
@@ -415,6 +424,7 @@ fn tell_full<D: Disk, L: Law, R, E: Obey<D, L, R>, W: Voice>(
     requires whole { (E.keeping engine.now).broken ≡ false }
     ensures disk { KeepsDisk D.view result (E.keeping engine.now).device (E.keeping engine.now).device }
     ensures fed { Feeds D.view L.answers W.marks result (W.contents writer.old) (W.contents writer.new) (E.keeping engine.now) (E.keeping engine.now) [] }
+    ensures fault { IfErr result (IsOfWriter W.HasRoom) }
 {
     let keeper = engine.keeper();
     if seen.is_none() || !keeper.is_full() {
@@ -461,6 +471,7 @@ fn write_outs<D: Disk, L: Law, R, E: Obey<D, L, R>, W: Voice>(
     ensures none_left { OnOk result ((E.keeping engine.new).queue ≡ []) }
     ensures stands { ((E.keeping engine.new).standing ≡ (E.keeping engine.old).standing) × ((E.keeping engine.new).collected ≡ (E.keeping engine.old).collected) }
     ensures base { SameBase (E.keeping engine.old) (E.keeping engine.new) }
+    ensures fault { IfErr result (IsOfWriter W.HasRoom) }
 {
     let marks = writer.is_marking();
     let mut text = String::new(alloc);
@@ -478,6 +489,7 @@ fn write_outs<D: Disk, L: Law, R, E: Obey<D, L, R>, W: Voice>(
 fn write_piece<W: Sink>(writer: &mut W, text: &mut String) -> Result<(), Fault>
     ensures ok { OnOk result ((Appends (W.contents writer.old) (W.contents writer.new) (string_bytes text.old) × (string_bytes text.new ≡ []))
         ⊎ ((writer.new ≡ writer.old) × (text.new ≡ text.old))) }
+    ensures fault { IfErr result (IsOfWriter W.HasRoom) }
     ensures err { IfErr result (λ f. f ≡ Fault.Output) }
 {
     if text.len() < PIECE {

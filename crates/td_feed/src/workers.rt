@@ -4,13 +4,13 @@
 //! closure that is called once says nothing of what it leaves behind a reference. So a disk must be one that may be dropped.
 //! `td_workers` is not used here: of a reference in its work nothing is known afterwards, and a feed says what its writer then
 //! holds.
-ghost use Rattle.std.specs.Prelude.{◌≡◌, false, IfSome};
+ghost use Rattle.std.specs.Prelude.{◌≡◌, false, IfErr, IfSome};
 ghost use Rattle.td_store.specs.standing.Standing.{last_epoch, last_request};
+ghost use Rattle.td_feed.specs.Caused.{IsOfStream};
 ghost use Rattle.td_feed.specs.Held.{KeepsTo, TellsSeen, seen_at, then_seen};
 ghost use Rattle.td_feed.specs.Session.{KeepsDisk, FeedsScript};
 
 use crate::allowance::Allowance;
-use crate::asking::Asking;
 use crate::at_pool::AtPool;
 use crate::host::Host;
 use crate::in_turn::{ended_as, obey_each};
@@ -26,6 +26,7 @@ use td_console::Fault;
 use td_core::Hall;
 use td_disk::Disk;
 use td_keeper::{Keeper, PoolEngine};
+use td_orders::Asking;
 use td_pool::{Crew, NewCourse, Pool, PoolError, Seat};
 
 /// Obeys orders by a hall on which workers work, at this pace, and settles. The pool keeps its course, so nothing is compared: nobody
@@ -63,6 +64,7 @@ pub(crate) fn obey_by_workers<
     ensures fed { IfSome (S.script (last_epoch keeper.standing) (last_request keeper.standing) orders) (λ script. FeedsScript D.view L.answers W.marks H.New.view result.1 (W.contents writer.old) (W.contents writer.new) (H.copies host.old) (H.copies host.new) keeper result.0 script) }
     ensures held { IfSome (S.script (last_epoch keeper.standing) (last_request keeper.standing) orders) (λ script. KeepsTo (then_seen (seen_at feeding.pace keeper.standing.epoch) script.orders) keeper result.0) }
     ensures seen { IfSome (S.script (last_epoch keeper.standing) (last_request keeper.standing) orders) (λ script. TellsSeen result.1 (seen_at feeding.pace keeper.standing.epoch) script.orders (H.seen host.old) (H.seen host.new)) }
+    ensures fault { IfSome (S.script (last_epoch keeper.standing) (last_request keeper.standing) orders) (λ script. IfErr result.1 (IsOfStream (S.overlong orders) script W.HasRoom)) }
 {
     match Pool::<K, L>::new(alloc, hall, blank) {
         Ok((mut pool, seats)) => {
@@ -106,6 +108,7 @@ fn beside<
     ensures fed { IfSome (S.script (last_epoch keeper.standing) (last_request keeper.standing) orders) (λ script. FeedsScript D.view L.answers W.marks H.New.view result.0.1 (W.contents writer.old) (W.contents writer.new) (H.copies host.entry.now) (H.copies result.1.now) keeper result.0.0 script) }
     ensures held { IfSome (S.script (last_epoch keeper.standing) (last_request keeper.standing) orders) (λ script. KeepsTo (then_seen (seen_at feeding.pace keeper.standing.epoch) script.orders) keeper result.0.0) }
     ensures seen { IfSome (S.script (last_epoch keeper.standing) (last_request keeper.standing) orders) (λ script. TellsSeen result.0.1 (seen_at feeding.pace keeper.standing.epoch) script.orders (H.seen host.entry.now) (H.seen result.1.now)) }
+    ensures fault { IfSome (S.script (last_epoch keeper.standing) (last_request keeper.standing) orders) (λ script. IfErr result.0.1 (IsOfStream (S.overlong orders) script W.HasRoom)) }
 {
     let allowance = Allowance::new(pool, feeding.pace.tasks_of_an_epoch());
     let allowance = &allowance;
@@ -120,6 +123,7 @@ fn beside<
             ensures fed { IfSome (S.script (last_epoch keeper.standing) (last_request keeper.standing) orders) (λ script. FeedsScript D.view L.answers W.marks H.New.view result.0.1 (W.contents writer.entry.now) (W.contents result.2.now) (H.copies host.entry.now) (H.copies result.1.now) keeper result.0.0 script) }
             ensures held { IfSome (S.script (last_epoch keeper.standing) (last_request keeper.standing) orders) (λ script. KeepsTo (then_seen (seen_at feeding.pace keeper.standing.epoch) script.orders) keeper result.0.0) }
             ensures seen { IfSome (S.script (last_epoch keeper.standing) (last_request keeper.standing) orders) (λ script. TellsSeen result.0.1 (seen_at feeding.pace keeper.standing.epoch) script.orders (H.seen host.entry.now) (H.seen result.1.now)) }
+            ensures fault { IfSome (S.script (last_epoch keeper.standing) (last_request keeper.standing) orders) (λ script. IfErr result.0.1 (IsOfStream (S.overlong orders) script W.HasRoom)) }
         {
             let pool = allowance.pool;
             let mut orders = orders;
@@ -177,6 +181,7 @@ fn obey_at_pool<D: Disk, S: Asking, W: Voice, H: Host, L: Law, K: Crew, R: Wait>
     ensures fed { IfSome (S.script (last_epoch keeper.standing) (last_request keeper.standing) orders.old) (λ script. FeedsScript D.view L.answers W.marks H.New.view result.1 (W.contents writer.old) (W.contents writer.new) (H.copies host.old) (H.copies host.new) keeper result.0 script) }
     ensures held { IfSome (S.script (last_epoch keeper.standing) (last_request keeper.standing) orders.old) (λ script. KeepsTo (then_seen (seen_at feeding.pace keeper.standing.epoch) script.orders) keeper result.0) }
     ensures seen { IfSome (S.script (last_epoch keeper.standing) (last_request keeper.standing) orders.old) (λ script. TellsSeen result.1 (seen_at feeding.pace keeper.standing.epoch) script.orders (H.seen host.old) (H.seen host.new)) }
+    ensures fault { IfSome (S.script (last_epoch keeper.standing) (last_request keeper.standing) orders.old) (λ script. IfErr result.1 (IsOfStream (S.overlong orders.old) script W.HasRoom)) }
 {
     let engine = PoolEngine::new(keeper, allowance.pool);
     let mut at_pool = AtPool { engine, allowance };

@@ -26,10 +26,10 @@ use Rattle.td_keeper.specs.Driven.{submitted_by, handed_in, handed_out, outs_bey
 use Rattle.td_keeper.specs.Acknowledged.{outs_of, Acknowledges}
 use Rattle.td_console.specs.declared.faults.Fault.{Fault}
 use Rattle.td_feed.specs.Carried.{new_to}
-use Rattle.td_feed.specs.Asked.{script_of}
+use Rattle.td_orders.specs.Scripts.{script_of}
 use Rattle.td_feed.specs.Fed.{TellsHistory, EachTellsHistory, TellsOnward}
 use Rattle.td_feed.specs.Held.{seen_after}
-use Rattle.td_feed.specs.Noted.{Aside, note_line}
+use Rattle.td_orders.specs.Noted.{Aside, note_line}
 use Rattle.td_feed.specs.Said.{Saying, replied, aside, full, answered, copied, not_copied, commands_in, replies_in, out_lines, full_line, copied_line, not_copied_line, request_in, line_of, answer_text, lines_of, Wanted, SaysBy, SaysFrom, SaysFed}
 use Rattle.td_feed.specs.Session.{wanted_by, wanted_of, script_by}
 use Rattle.td_theorem.specs.Life.{TellsAs}

@@ -7,10 +7,11 @@ use Rattle.td_calls.specs.Fits.{first_lack}
 use Rattle.td_disk.specs.Disk.{DiskView, DiskState}
 use Rattle.td_console.specs.declared.faults.Fault.{Fault}
 use Rattle.td_console.specs.Answer.{Stored, lack_fault}
-use Rattle.td_feed.specs.Orders.{orders_of, submitted_by}
+use Rattle.td_orders.specs.Orders.{orders_of, submitted_by}
 use Rattle.td_feed.specs.Said.{epochs_alone}
 use Rattle.td_feed.specs.declared.streaming.StreamOptions.{StreamOptions}
 use Rattle.td_feed.specs.Copied.{Copied}
+use Rattle.td_feed.specs.Caused.{IsRefusedFor}
 use Rattle.td_feed.specs.Session.{KeepsDisk, FeedsDisk, StreamsCopying, SeesOrNot}
 
 -- the first vertex of a plan whose closure a store lacks
@@ -32,7 +33,7 @@ module _ (stored : Stored) {D S T : Type 0} (view : D → DiskView)
         (contents writer) (contents written) (epochs_alone (submitted_by (orders_of plan input))))
 
 module _ (stored : Stored) {D S T E H : Type 0} (view : D → DiskView)
-    (remaining : S → Option (List ℕ)) (contents : T → Option (List ℕ)) (marks : Bool)
+    (remaining : S → Option (List ℕ)) (contents : T → Option (List ℕ)) (has : T → ℕ → Type 0) (marks : Bool)
     (new_view : E → DiskView) (copies_of : H → Option (List (Copied E))) (seen_of : H → Option ℕ) (plan : List PlanLine) where
   -- A STREAM, by its options and by one worker or several, of a disk before and after, of its reader, of a writer and of a host before and after, and of its
   -- answer
@@ -41,6 +42,8 @@ module _ (stored : Stored) {D S T E H : Type 0} (view : D → DiskView)
     -- a closure that the store lacks comes first: nothing is written
     pub lack : IfSome (lack_in stored plan) (λ lack. (result ≡ Err (lack_fault lack)) × (left ≡ disk) × (written ≡ writer) × (told ≡ host))
     pub fits : OnOk result (lack_in stored plan ≡ None)
+    -- a line's fault is the input's, and a writer with room does not fail
+    pub fault : IfSome (remaining reader) (λ input. IsRefusedFor view stored.answers has how result plan disk input)
     -- what the input asks for is fed, by one worker until all outputs went out
     pub fed : lack_in stored plan ≡ None
         → IfSome (remaining reader) (λ input. StreamsCopying view stored.answers marks new_view how result plan alone disk left

@@ -1,11 +1,14 @@
 use Rattle.std.proofs.Common.{◌≡◌, refl, sym, ap, subst}
-use Rattle.std.specs.Prelude.{Ok, Err, OnOk}
+use Rattle.std.specs.Prelude.{Ok, Err, OnOk, IfErr}
 use Rattle.std.specs.Option.{IfSome}
 use Rattle.std.proofs.lemmas.Option.{IfSome_then}
-use Rattle.td_console.specs.declared.faults.Fault.TheVariants.{Memory}
+use Rattle.td_console.specs.declared.faults.Fault.TheVariants.{Memory, Keeper}
+use Rattle.td_store.specs.declared.standing.error.KeeperError.TheVariants.{Epochs}
 use Rattle.td_store.specs.standing.Standing.{last_epoch, last_request}
 use Rattle.td_keeper.specs.Keeping.{Keeping}
 use Rattle.td_feed.specs.Said.{IsAllOut}
+use Rattle.td_feed.specs.Caused.{IsOfStream}
+use Rattle.td_feed.proofs.Causes.{if_of_writer, ended_for}
 use Rattle.td_feed.specs.Session.{KeepsDisk, FeedsScript}
 use Rattle.td_feed.proofs.Carrying.{ok_only, ended_ok}
 use Rattle.td_feed.proofs.Counting.{memory_no_device, epochs_no_device}
@@ -101,3 +104,19 @@ returns-clause-seen g c =
     let script = λ (k : Keeping g.row.D.Denot). g.S.Asking.script (last_epoch k.standing) (last_request k.standing) c.args.orders in
     subst (λ (k : Keeping g.row.D.Denot). IfSome (script k) (λ s. TellsSeen r (seen_at pace k.standing.epoch) s.orders before after)) c.in-Ok.ensures.same
     (IfSome_then (script c.in-Ok.engine.keeping) c.obey_each-obeyed.ensures.seen (λ s seen. seen_ended c.obey_each-obeyed.result r c.worked_until.result c.ended_as.ensures.ok seen))
+
+pub returns-then-is_at_last_number-clause-fault : goal.returns-then-is_at_last_number-clause-fault
+returns-then-is_at_last_number-clause-fault g c =
+    if_of_writer (g.S.Asking.overlong c.args.orders) (g.S.Asking.script (last_epoch c.args.keeper.standing) (last_request c.args.keeper.standing) c.args.orders) g.W.Sink.HasRoom (Err (Keeper Epochs)) refl
+
+pub returns-in-Err-clause-fault : goal.returns-in-Err-clause-fault
+returns-in-Err-clause-fault g c =
+    if_of_writer (g.S.Asking.overlong c.args.orders) (g.S.Asking.script (last_epoch c.args.keeper.standing) (last_request c.args.keeper.standing) c.args.orders) g.W.Sink.HasRoom (Err Memory) refl
+
+pub returns-clause-fault : goal.returns-clause-fault
+returns-clause-fault g c =
+    let overlong = g.S.Asking.overlong c.args.orders in
+    let has = g.W.Sink.HasRoom in
+    let script = λ (k : Keeping g.row.D.Denot). g.S.Asking.script (last_epoch k.standing) (last_request k.standing) c.args.orders in
+    subst (λ (k : Keeping g.row.D.Denot). IfSome (script k) (λ s. IfErr c.ended_as.result (IsOfStream overlong s has))) c.in-Ok.ensures.same
+    (IfSome_then (script c.in-Ok.engine.keeping) c.obey_each-obeyed.ensures.fault (λ s fault. ended_for overlong s has c.obey_each-obeyed.result c.ended_as.result c.worked_until.result c.ended_as.ensures.err fault))

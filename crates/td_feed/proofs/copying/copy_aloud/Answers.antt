@@ -1,7 +1,7 @@
 use Rattle.std.proofs.Common.{[], ◌∷◌, refl, ap, subst, sym}
 use Rattle.std.specs.Prelude.{Option, List, Some, None}
 use Rattle.td_store.specs.standing.Tells.{first_head}
-use Rattle.td_feed.specs.Noted.Aside.{to_copy}
+use Rattle.td_orders.specs.Noted.Aside.{to_copy}
 use Rattle.td_feed.specs.Said.{copied_line, not_copied_line}
 use Rattle.td_feed.specs.Copied.{Copied, why_text}
 use Rattle.td_feed.specs.Session.{FeedsCopying}

@@ -11,7 +11,7 @@ use Rattle.td_store.specs.standing.Stops.{Stands}
 use Rattle.td_store.specs.standing.Advanced.{states_by, HeldWhere}
 use Rattle.td_journal.specs.Numbers.{greatest}
 use Rattle.td_keeper.specs.Keeping.{Keeping}
-use Rattle.td_feed.specs.Orders.{orders_of, submitted_by, new_after}
+use Rattle.td_orders.specs.Orders.{orders_of, submitted_by, new_after}
 use Rattle.td_feed.specs.Fed.{EachTellsHistory, EachTellsSome}
 use Rattle.td_feed.specs.Carried.{new_to, Carries}
 use Rattle.td_feed.specs.Said.{epochs_alone}
@@ -20,7 +20,7 @@ use Rattle.td_feed.proofs.Newness.{last_of_history}
 use Rattle.td_feed.proofs.Carrying.{in_some, ended_some, ended_all, none_more, still_each, found}
 use Rattle.td_feed.proofs.Counting.{as_err, fault_of, lack_no_device}
 use Rattle.td_feed.proofs.Lines.{fed_says}
-use Rattle.td_feed.proofs.Refused.{refused}
+use Rattle.td_report.specs.RefusedProofs.{refused}
 use Rattle.std.proofs.lemmas.Result.{on_ok_weaker}
 use Rattle.td_feed.proofs.Sessions.{left_of, disk_same, disk_then, disk_recovered, disk_refused, refused_by}
 use Rattle.td_feed.proofs.feeding.feed.Goals as goal

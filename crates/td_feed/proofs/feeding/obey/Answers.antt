@@ -4,12 +4,12 @@ use Rattle.std.proofs.lemmas.Option.{IfSome_then}
 use Rattle.td_plan.specs.Lines.{Line}
 use Rattle.td_journal.specs.declared.submitted.Submitted.{Submitted}
 use Rattle.td_console.specs.declared.faults.Fault.{Fault}
-use Rattle.td_feed.specs.declared.order.Order.{Order}
-use Rattle.td_feed.specs.Noted.{Aside, as_asked, ComeOf}
-use Rattle.td_feed.specs.Orders.{orders_of, submissions, submitted_by, notes_in}
+use Rattle.td_orders.specs.declared.order.Order.{Order}
+use Rattle.td_orders.specs.Noted.{Aside, as_asked, ComeOf}
+use Rattle.td_orders.specs.Orders.{orders_of, submissions, submitted_by, notes_in}
 use Rattle.td_feed.specs.Carried.{new_to}
 use Rattle.td_feed.specs.Session.{FeedsNoting}
-use Rattle.td_feed.proofs.Accepted.{none_noted}
+use Rattle.td_orders.proofs.Accepted.{none_noted}
 use Rattle.td_feed.proofs.Carrying.{in_some}
 use Rattle.td_feed.proofs.Counting.{fault_of}
 use Rattle.td_feed.proofs.Sessions.{disk_same, unfed}

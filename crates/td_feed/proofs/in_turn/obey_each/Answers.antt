@@ -4,10 +4,11 @@ use Rattle.std.specs.Result.{IsErrAnd}
 use Rattle.td_console.specs.declared.faults.Fault.{Fault}
 use Rattle.td_console.specs.declared.faults.Fault.TheVariants.{Keeper}
 use Rattle.td_store.specs.declared.standing.error.KeeperError.TheVariants.{Device}
-use Rattle.td_feed.specs.Noted.{Aside, ComeOf, copied_in}
+use Rattle.td_orders.specs.Noted.{Aside, ComeOf, copied_in}
 use Rattle.td_feed.specs.Copied.{Copied, MakesCopies}
-use Rattle.td_feed.specs.Orders.{submissions, notes_in}
-use Rattle.td_feed.specs.Asked.{Script, Asks, asked_for, notes_for, is_of_reader}
+use Rattle.td_orders.specs.Orders.{submissions, notes_in}
+use Rattle.td_orders.specs.declared.at_once.Room.{Room}
+use Rattle.td_orders.specs.Scripts.{Script, Asks, asked_for, notes_for, is_of_reader}
 use Rattle.td_store.specs.standing.Standing.{last_epoch, last_request}
 use Rattle.td_keeper.specs.Keeping.{Keeping}
 use Rattle.td_feed.specs.Carried.{new_to, Carries, Leaves}
@@ -22,6 +23,7 @@ use Rattle.td_feed.proofs.Counting.{as_err, other_fault, memory_no_device}
 use Rattle.td_feed.proofs.Lines.{says_nothing, some_of_all, some_of_more, by_refusal, handed_on}
 use Rattle.td_feed.proofs.Obeyed.{HasObeyed, none_obeyed, some_obeyed, some_refused, some_held, held_there, some_seen, told_on, came_left, came_there, left_there, seen_there, is_sound, at_end_carried, at_end_left, at_end_said, at_end_came, at_end_copied, at_end_seen, none_left, none_of}
 use Rattle.td_feed.proofs.Placed.{script_at, next_script, script_same, next_there, AsksFrom, asks_there}
+use Rattle.td_feed.proofs.Causes.{if_of_writer, handed_of_writer, of_reader, of_seen, tells_there}
 use Rattle.td_feed.proofs.Sessions.{done, known, in_some_is, disk_same, disk_then, disk_handed, none_fed, err_fed}
 use Rattle.td_feed.proofs.in_turn.obey_each.Goals as goal
 
@@ -91,6 +93,7 @@ loop-asked-init g c =
           (subst (λ (k : Keeping g.row.D.Denot). KeepsTo first k new) same c.begin.ensures.held))));
       disk = disk;
       told = c.tell_seen.ensures.seen;
+      overlong = λ is. is;
     }
 
 pub returns-in_err-asked-clause-disk : goal.returns-in_err-asked-clause-disk
@@ -205,9 +208,9 @@ returns-in_default-clause-fed g c =
     let r = c.settle.result in
     let none = none_of c.in_ok-asked.field-0 c.in_default.not-Some in
     let asks : Asks left next None =
-    asks_there g.S.Asking.script there c.of-room.result.told c.of-room.result.last c.loop-asked.orders c.next_asked.new.self None
-    (c.of-room.ensures.told ∙ ap (λ (k : Keeping g.row.D.Denot). last_epoch k.standing) c.keeper-keeper.ensures) (c.of-room.ensures.last ∙ ap (λ (k : Keeping g.row.D.Denot). last_request k.standing) c.keeper-keeper.ensures)
-    (subst (AsksFrom g.S.Asking.script c.of-room.result.told c.of-room.result.last c.loop-asked.orders c.next_asked.new.self) none c.in_ok-asked.ensures.asked) in
+    asks_there g.S.Asking.script there c.room_of-room.result.told c.room_of-room.result.last c.loop-asked.orders c.next_asked.new.self None
+    (ap (λ (r : Room). r.told) c.room_of-room.ensures ∙ ap (λ (k : Keeping g.row.D.Denot). last_epoch k.standing) c.keeper-keeper.ensures) (ap (λ (r : Room). r.last) c.room_of-room.ensures ∙ ap (λ (k : Keeping g.row.D.Denot). last_request k.standing) c.keeper-keeper.ensures)
+    (subst (AsksFrom g.S.Asking.script c.room_of-room.result.told c.room_of-room.result.last c.loop-asked.orders c.next_asked.new.self) none c.in_ok-asked.ensures.asked) in
     in_some_is script
     (λ s is. record {
       sound = at_ok r (known _ script s is (is_sound view answers marks new_view script left next u v had has old there first seen so asks));
@@ -246,9 +249,9 @@ loop-asked-preserved g c =
     let asked = c.in-Some-2.asked in
     let next = next_script g.S.Asking.script there (Some asked) c.next_asked.new.self in
     let asks : Asks left next (Some asked) =
-    asks_there g.S.Asking.script there c.of-room.result.told c.of-room.result.last c.loop-asked.orders c.next_asked.new.self (Some asked)
-    (c.of-room.ensures.told ∙ ap (λ (k : Keeping g.row.D.Denot). last_epoch k.standing) c.keeper-keeper.ensures) (c.of-room.ensures.last ∙ ap (λ (k : Keeping g.row.D.Denot). last_request k.standing) c.keeper-keeper.ensures)
-    (subst (AsksFrom g.S.Asking.script c.of-room.result.told c.of-room.result.last c.loop-asked.orders c.next_asked.new.self) c.in-Some-2.is c.in_ok-asked.ensures.asked) in
+    asks_there g.S.Asking.script there c.room_of-room.result.told c.room_of-room.result.last c.loop-asked.orders c.next_asked.new.self (Some asked)
+    (ap (λ (r : Room). r.told) c.room_of-room.ensures ∙ ap (λ (k : Keeping g.row.D.Denot). last_epoch k.standing) c.keeper-keeper.ensures) (ap (λ (r : Room). r.last) c.room_of-room.ensures ∙ ap (λ (k : Keeping g.row.D.Denot). last_request k.standing) c.keeper-keeper.ensures)
+    (subst (AsksFrom g.S.Asking.script c.room_of-room.result.told c.room_of-room.result.last c.loop-asked.orders c.next_asked.new.self) c.in-Some-2.is c.in_ok-asked.ensures.asked) in
     let same = c.allow-in-loop-asked.ensures in
     let told = c.tell_seen-in-loop-asked.ensures in
     let fed : FeedsCopying view answers marks new_view done v w has then there new (new_to there (asked_for asked)) (notes_for asked) =
@@ -267,6 +270,7 @@ loop-asked-preserved g c =
       told =
           c.obey_at_pace.ensures.seen ∙ told.seen ∙ ap (λ (o : Option ℕ). told_seen o later) c.loop-asked.invariant.told
           ∙ told_on view answers marks new_view script left next u v w had has then old there new asked first seen so asks later before c.in_ok-next.ensures.ok;
+      overlong = λ is. c.loop-asked.invariant.overlong (c.in_ok-asked.ensures.overlong is);
     }
 
 pub returns-in_err-obey_at_pace-clause-disk : goal.returns-in_err-obey_at_pace-clause-disk
@@ -298,9 +302,9 @@ returns-in_err-obey_at_pace-clause-fed g c =
     let asked = c.in-Some-2.asked in
     let next = next_script g.S.Asking.script there (Some asked) c.next_asked.new.self in
     let asks : Asks left next (Some asked) =
-    asks_there g.S.Asking.script there c.of-room.result.told c.of-room.result.last c.loop-asked.orders c.next_asked.new.self (Some asked)
-    (c.of-room.ensures.told ∙ ap (λ (k : Keeping g.row.D.Denot). last_epoch k.standing) c.keeper-keeper.ensures) (c.of-room.ensures.last ∙ ap (λ (k : Keeping g.row.D.Denot). last_request k.standing) c.keeper-keeper.ensures)
-    (subst (AsksFrom g.S.Asking.script c.of-room.result.told c.of-room.result.last c.loop-asked.orders c.next_asked.new.self) c.in-Some-2.is c.in_ok-asked.ensures.asked) in
+    asks_there g.S.Asking.script there c.room_of-room.result.told c.room_of-room.result.last c.loop-asked.orders c.next_asked.new.self (Some asked)
+    (ap (λ (r : Room). r.told) c.room_of-room.ensures ∙ ap (λ (k : Keeping g.row.D.Denot). last_epoch k.standing) c.keeper-keeper.ensures) (ap (λ (r : Room). r.last) c.room_of-room.ensures ∙ ap (λ (k : Keeping g.row.D.Denot). last_request k.standing) c.keeper-keeper.ensures)
+    (subst (AsksFrom g.S.Asking.script c.room_of-room.result.told c.room_of-room.result.last c.loop-asked.orders c.next_asked.new.self) c.in-Some-2.is c.in_ok-asked.ensures.asked) in
     let same = c.allow-in-loop-asked.ensures in
     let r = c.from_residual-in_err-obey_at_pace.result in
     let e = c.in_err-obey_at_pace.field-0.0 in
@@ -351,9 +355,9 @@ returns-in_err-obey_at_pace-clause-held g c =
     let asked = c.in-Some-2.asked in
     let next = next_script g.S.Asking.script there (Some asked) c.next_asked.new.self in
     let asks : Asks left next (Some asked) =
-    asks_there g.S.Asking.script there c.of-room.result.told c.of-room.result.last c.loop-asked.orders c.next_asked.new.self (Some asked)
-    (c.of-room.ensures.told ∙ ap (λ (k : Keeping g.row.D.Denot). last_epoch k.standing) c.keeper-keeper.ensures) (c.of-room.ensures.last ∙ ap (λ (k : Keeping g.row.D.Denot). last_request k.standing) c.keeper-keeper.ensures)
-    (subst (AsksFrom g.S.Asking.script c.of-room.result.told c.of-room.result.last c.loop-asked.orders c.next_asked.new.self) c.in-Some-2.is c.in_ok-asked.ensures.asked) in
+    asks_there g.S.Asking.script there c.room_of-room.result.told c.room_of-room.result.last c.loop-asked.orders c.next_asked.new.self (Some asked)
+    (ap (λ (r : Room). r.told) c.room_of-room.ensures ∙ ap (λ (k : Keeping g.row.D.Denot). last_epoch k.standing) c.keeper-keeper.ensures) (ap (λ (r : Room). r.last) c.room_of-room.ensures ∙ ap (λ (k : Keeping g.row.D.Denot). last_request k.standing) c.keeper-keeper.ensures)
+    (subst (AsksFrom g.S.Asking.script c.room_of-room.result.told c.room_of-room.result.last c.loop-asked.orders c.next_asked.new.self) c.in-Some-2.is c.in_ok-asked.ensures.asked) in
     some_held g.D.Disk.view g.L.Law.answers g.W.Voice.marks g.H.New.Disk.view script left next (g.W.Sink.contents c.args.writer.now) (g.W.Sink.contents c.loop-asked.writer) (g.W.Sink.contents c.obey_at_pace.new.writer) (g.H.Host.copies c.args.host.now) (g.H.Host.copies c.loop-asked.host) (g.H.Host.copies c.obey_at_pace.new.host) old there new asked first c.loop-asked.seen
     c.loop-asked.invariant.obeyed asks c.in_ok-next.next c.in_ok-next.ensures.ok
     (subst (λ (k : Keeping g.row.D.Denot). KeepsTo c.in_ok-next.next k new) c.allow-in-loop-asked.ensures c.obey_at_pace.ensures.held)
@@ -412,9 +416,9 @@ returns-in_default-clause-seen g c =
     let next = next_script g.S.Asking.script there None c.next_asked.new.self in
     let none = none_of c.in_ok-asked.field-0 c.in_default.not-Some in
     let asks : Asks left next None =
-    asks_there g.S.Asking.script there c.of-room.result.told c.of-room.result.last c.loop-asked.orders c.next_asked.new.self None
-    (c.of-room.ensures.told ∙ ap (λ (k : Keeping g.row.D.Denot). last_epoch k.standing) c.keeper-keeper.ensures) (c.of-room.ensures.last ∙ ap (λ (k : Keeping g.row.D.Denot). last_request k.standing) c.keeper-keeper.ensures)
-    (subst (AsksFrom g.S.Asking.script c.of-room.result.told c.of-room.result.last c.loop-asked.orders c.next_asked.new.self) none c.in_ok-asked.ensures.asked) in
+    asks_there g.S.Asking.script there c.room_of-room.result.told c.room_of-room.result.last c.loop-asked.orders c.next_asked.new.self None
+    (ap (λ (r : Room). r.told) c.room_of-room.ensures ∙ ap (λ (k : Keeping g.row.D.Denot). last_epoch k.standing) c.keeper-keeper.ensures) (ap (λ (r : Room). r.last) c.room_of-room.ensures ∙ ap (λ (k : Keeping g.row.D.Denot). last_request k.standing) c.keeper-keeper.ensures)
+    (subst (AsksFrom g.S.Asking.script c.room_of-room.result.told c.room_of-room.result.last c.loop-asked.orders c.next_asked.new.self) none c.in_ok-asked.ensures.asked) in
     at_end_seen g.D.Disk.view g.L.Law.answers g.W.Voice.marks g.H.New.Disk.view script left next (g.W.Sink.contents c.args.writer.now) (g.W.Sink.contents c.loop-asked.writer) (g.H.Host.copies c.args.host.now) (g.H.Host.copies c.loop-asked.host) old there first c.loop-asked.seen c.loop-asked.invariant.obeyed
     c.settle.result (g.H.Host.seen c.args.host.now) (g.H.Host.seen c.loop-asked.host) asks c.loop-asked.invariant.told
 
@@ -429,9 +433,9 @@ returns-in_err-obey_at_pace-clause-seen g c =
     let asked = c.in-Some-2.asked in
     let next = next_script g.S.Asking.script there (Some asked) c.next_asked.new.self in
     let asks : Asks left next (Some asked) =
-    asks_there g.S.Asking.script there c.of-room.result.told c.of-room.result.last c.loop-asked.orders c.next_asked.new.self (Some asked)
-    (c.of-room.ensures.told ∙ ap (λ (k : Keeping g.row.D.Denot). last_epoch k.standing) c.keeper-keeper.ensures) (c.of-room.ensures.last ∙ ap (λ (k : Keeping g.row.D.Denot). last_request k.standing) c.keeper-keeper.ensures)
-    (subst (AsksFrom g.S.Asking.script c.of-room.result.told c.of-room.result.last c.loop-asked.orders c.next_asked.new.self) c.in-Some-2.is c.in_ok-asked.ensures.asked) in
+    asks_there g.S.Asking.script there c.room_of-room.result.told c.room_of-room.result.last c.loop-asked.orders c.next_asked.new.self (Some asked)
+    (ap (λ (r : Room). r.told) c.room_of-room.ensures ∙ ap (λ (k : Keeping g.row.D.Denot). last_epoch k.standing) c.keeper-keeper.ensures) (ap (λ (r : Room). r.last) c.room_of-room.ensures ∙ ap (λ (k : Keeping g.row.D.Denot). last_request k.standing) c.keeper-keeper.ensures)
+    (subst (AsksFrom g.S.Asking.script c.room_of-room.result.told c.room_of-room.result.last c.loop-asked.orders c.next_asked.new.self) c.in-Some-2.is c.in_ok-asked.ensures.asked) in
     let later = c.in_ok-next.next in
     let before = g.H.Host.seen c.args.host.now in
     let r = c.from_residual-in_err-obey_at_pace.result in
@@ -446,3 +450,34 @@ returns-in_err-obey_at_pace-clause-seen g c =
     r later before (g.H.Host.seen c.obey_at_pace.new.host) (is_err _ r c.from_residual-in_err-obey_at_pace.ensures.1) c.in_ok-next.ensures.ok
     (c.obey_at_pace.ensures.seen ∙ c.tell_seen-in-loop-asked.ensures.seen ∙ ap (λ (o : Option ℕ). told_seen o later) c.loop-asked.invariant.told
     ∙ told_on g.D.Disk.view g.L.Law.answers g.W.Voice.marks g.H.New.Disk.view script left next u v w had has then old there new asked first c.loop-asked.seen so asks later before c.in_ok-next.ensures.ok)
+
+pub returns-in_err-asked-clause-fault : goal.returns-in_err-asked-clause-fault
+returns-in_err-asked-clause-fault g c =
+    let there = g.E.Obey.keeping c.loop-asked.engine in
+    let overlong = g.S.Asking.overlong c.loop-asked.orders in
+    let f = c.in_err-asked.field-0.0 in
+    of_reader g.W.Sink.HasRoom (g.S.Asking.overlong c.args.orders.now) overlong (script_at g.S.Asking.script (g.E.Obey.keeping c.args.engine.now) c.args.orders.now) (script_at g.S.Asking.script there c.loop-asked.orders) c.loop-asked.invariant.obeyed.done
+    c.from_residual-in_err-asked.result f c.from_residual-in_err-asked.ensures.1 c.loop-asked.invariant.overlong c.loop-asked.invariant.obeyed.known c.in_err-asked.ensures.err
+    (tells_there g.S.Asking.script there c.room_of-room.result.told c.room_of-room.result.last c.loop-asked.orders overlong f
+    (ap (λ (r : Room). r.told) c.room_of-room.ensures ∙ ap (λ (k : Keeping g.row.D.Denot). last_epoch k.standing) c.keeper-keeper.ensures) (ap (λ (r : Room). r.last) c.room_of-room.ensures ∙ ap (λ (k : Keeping g.row.D.Denot). last_request k.standing) c.keeper-keeper.ensures) c.in_err-asked.ensures.fault)
+
+pub returns-in_default-clause-fault : goal.returns-in_default-clause-fault
+returns-in_default-clause-fault g c =
+    if_of_writer (g.S.Asking.overlong c.args.orders.now) (script_at g.S.Asking.script (g.E.Obey.keeping c.args.engine.now) c.args.orders.now) g.W.Sink.HasRoom c.settle.result c.settle.ensures.fault
+
+pub returns-in_err-next-clause-fault : goal.returns-in_err-next-clause-fault
+returns-in_err-next-clause-fault g c =
+    let there = g.E.Obey.keeping c.loop-asked.engine in
+    let asked = c.in-Some-2.asked in
+    let asks : Asks (script_at g.S.Asking.script there c.loop-asked.orders) (next_script g.S.Asking.script there (Some asked) c.next_asked.new.self) (Some asked) =
+    asks_there g.S.Asking.script there c.room_of-room.result.told c.room_of-room.result.last c.loop-asked.orders c.next_asked.new.self (Some asked)
+    (ap (λ (r : Room). r.told) c.room_of-room.ensures ∙ ap (λ (k : Keeping g.row.D.Denot). last_epoch k.standing) c.keeper-keeper.ensures) (ap (λ (r : Room). r.last) c.room_of-room.ensures ∙ ap (λ (k : Keeping g.row.D.Denot). last_request k.standing) c.keeper-keeper.ensures)
+    (subst (AsksFrom g.S.Asking.script c.room_of-room.result.told c.room_of-room.result.last c.loop-asked.orders c.next_asked.new.self) c.in-Some-2.is c.in_ok-asked.ensures.asked) in
+    of_seen g.W.Sink.HasRoom (g.S.Asking.overlong c.args.orders.now) (script_at g.S.Asking.script (g.E.Obey.keeping c.args.engine.now) c.args.orders.now) (script_at g.S.Asking.script there c.loop-asked.orders)
+    (next_script g.S.Asking.script there (Some asked) c.next_asked.new.self) c.loop-asked.invariant.obeyed.done asked c.from_residual-in_err-next.result c.in_err-next.field-0.0 c.from_residual-in_err-next.ensures.1
+    c.loop-asked.invariant.obeyed.known asks c.in_err-next.ensures.fault
+
+pub returns-in_err-obey_at_pace-clause-fault : goal.returns-in_err-obey_at_pace-clause-fault
+returns-in_err-obey_at_pace-clause-fault g c =
+    handed_of_writer (g.S.Asking.overlong c.args.orders.now) (script_at g.S.Asking.script (g.E.Obey.keeping c.args.engine.now) c.args.orders.now) g.W.Sink.HasRoom
+    c.from_residual-in_err-obey_at_pace.result c.in_err-obey_at_pace.field-0.0 c.from_residual-in_err-obey_at_pace.ensures.1 c.in_err-obey_at_pace.ensures.fault

@@ -1,10 +1,11 @@
 use Rattle.std.proofs.Common.{◌≡◌, ℕ, Bool, true, false, List, refl, ap, ◌∙◌, subst}
-use Rattle.std.specs.Prelude.{Option, option_map}
+use Rattle.std.specs.Prelude.{Option, option_map, IfErr}
 use Rattle.std.specs.Option.{IfSome}
 use Rattle.td_plan.specs.Lines.{Line}
 use Rattle.td_store.specs.standing.Standing.{last_epoch, last_request}
-use Rattle.td_feed.specs.Asked.{Script, is_given, script_of}
-use Rattle.td_feed.specs.Placed.{placed}
+use Rattle.td_orders.specs.Scripts.{Script, is_given, script_of}
+use Rattle.td_orders.specs.Lines.{has_overlong}
+use Rattle.td_orders.specs.Placed.{placed}
 use Rattle.td_feed.specs.Session.{limit_of, FeedsScript}
 use Rattle.td_feed.proofs.Carrying.{of_made}
 use Rattle.td_feed.proofs.Placed.{made_twice}
@@ -13,6 +14,8 @@ use Rattle.td_feed.specs.declared.under_way.Pace.{Pace}
 use Rattle.td_feed.specs.Held.{KeepsTo, TellsSeen, seen_at, first_seen, then_seen}
 use Rattle.td_feed.proofs.SeenAsked.{tells_nothing}
 use Rattle.td_feed.proofs.Held.{base_itself, keeps_same}
+use Rattle.td_feed.specs.Caused.{IsOfStream}
+use Rattle.td_feed.proofs.Causes.{of_opening}
 use Rattle.td_feed.proofs.streaming.obey.Goals as goal
 
 pub returns-in-Err-clause-fed : goal.returns-in-Err-clause-fed
@@ -143,3 +146,40 @@ returns-in-Err-clause-seen g c =
     in_some_is input
     (λ text is. tells_nothing c.in-Err.fault (first_seen o.hold k.standing.epoch) (g.H.Host.seen c.args.host.now)
     (script_at_disk o.placing o.hold o.questions o.copies o.refuse k.head.shape.m (last_epoch k.standing) (last_request k.standing) c.args.plan.now input text).orders)
+
+pub returns-in-Ok-clause-fault : goal.returns-in-Ok-clause-fault
+returns-in-Ok-clause-fault g c =
+    let ended = c.obey_by_workers.result in
+    let k = c.args.keeper in
+    let o = c.args.options in
+    let told : ℕ = last_epoch k.standing in
+    let last : ℕ = last_request k.standing in
+    let input = g.I.Source.remaining c.args.reader in
+    let read : List ℕ → Script = script_at_disk o.placing o.hold o.questions o.copies o.refuse k.head.shape.m told last c.args.plan.now input in
+    subst (λ (rest : Option (List ℕ)). IfSome input (λ text. IfErr ended.1 (IsOfStream (has_overlong rest) (read text) g.W.Sink.HasRoom))) c.new-orders.ensures.rest
+    (of_made read (λ (asked : Script). IfErr ended.1 (IsOfStream (has_overlong c.new-orders.result.rest) asked g.W.Sink.HasRoom)) input _
+    (made_at_disk o.placing o.hold o.questions o.copies o.refuse k.head.shape.m told last c.args.plan.now input c.limit_of-limit.result _ _ c.limit_of-limit.ensures c.new-orders.ensures.refuses c.new-orders.ensures.script)
+    c.obey_by_workers.ensures.fault)
+
+pub returns-then-workers-eq1-clause-fault : goal.returns-then-workers-eq1-clause-fault
+returns-then-workers-eq1-clause-fault g c =
+    let ended = c.obey_alone.result in
+    let k = c.args.keeper in
+    let o = c.args.options in
+    let told : ℕ = last_epoch k.standing in
+    let last : ℕ = last_request k.standing in
+    let input = g.I.Source.remaining c.args.reader in
+    let read : List ℕ → Script = script_at_disk o.placing o.hold o.questions o.copies o.refuse k.head.shape.m told last c.args.plan.now input in
+    subst (λ (rest : Option (List ℕ)). IfSome input (λ text. IfErr ended.1 (IsOfStream (has_overlong rest) (read text) g.W.Sink.HasRoom))) c.new-orders.ensures.rest
+    (of_made read (λ (asked : Script). IfErr ended.1 (IsOfStream (has_overlong c.new-orders.result.rest) asked g.W.Sink.HasRoom)) input _
+    (made_at_disk o.placing o.hold o.questions o.copies o.refuse k.head.shape.m told last c.args.plan.now input c.limit_of-limit.result _ _ c.limit_of-limit.ensures c.new-orders.ensures.refuses c.new-orders.ensures.script)
+    c.obey_alone.ensures.fault)
+
+pub returns-in-Err-clause-fault : goal.returns-in-Err-clause-fault
+returns-in-Err-clause-fault g c =
+    let k = c.args.keeper in
+    let o = c.args.options in
+    let input = g.I.Source.remaining c.args.reader in
+    in_some_is input
+    (λ text is. of_opening (has_overlong input) (script_at_disk o.placing o.hold o.questions o.copies o.refuse k.head.shape.m (last_epoch k.standing) (last_request k.standing) c.args.plan.now input text) g.W.Sink.HasRoom
+    c.in-Err.fault c.in-Err.ensures.refused)

@@ -1,5 +1,5 @@
 use Rattle.std.proofs.Common.{◌≡◌, ◌==◌, eqb-true, Bool, true, false, ℕ, ◌≤◌, arith, List, [], ◌++◌, length, refl, sym, ap, ◌∙◌, subst, inl, inr, ⊎_elim}
-use Rattle.std.specs.Prelude.{Option, IfSome, Ok, All}
+use Rattle.std.specs.Prelude.{Option, None, IfSome, IfErr, Ok, All}
 use Rattle.td_plan.specs.Lines.{Line}
 use Rattle.td_disk.specs.Disk.{DiskState, Rises, IsDurable}
 use Rattle.td_gate.specs.CrashSafe.{CrashSafe, Unchanged}
@@ -11,16 +11,17 @@ use Rattle.td_store.specs.standing.Stops.{Stands}
 use Rattle.td_store.specs.standing.Advanced.{states_by, HeldWhere}
 use Rattle.td_journal.specs.Numbers.{greatest}
 use Rattle.td_keeper.specs.Keeping.{Keeping, IsKeeping, EachKeepsTo, EverKeepsTo, KeepsSince}
-use Rattle.td_feed.specs.declared.order.Order.{Order}
+use Rattle.td_orders.specs.declared.order.Order.{Order}
 use Rattle.td_feed.specs.Held.{seen_after, first_seen, then_seen, TellsSeen, GoesUpTo, KeepsTo}
 use Rattle.td_feed.specs.Copied.{IsCopyOf}
 use Rattle.td_feed.specs.Said.{SaysFrom}
 use Rattle.td_feed.proofs.Copies.{with_none}
 use Rattle.td_feed.proofs.Held.{seen_on, seen_further}
-use Rattle.td_feed.specs.Orders.{submissions, new_after}
+use Rattle.td_orders.specs.Orders.{submissions, new_after}
 use Rattle.td_store.specs.standing.Standing.{last_epoch, last_request}
-use Rattle.td_feed.specs.Asked.{Script, script_of}
-use Rattle.td_feed.specs.Placed.{placed}
+use Rattle.td_orders.specs.Scripts.{Script, script_of}
+use Rattle.td_orders.specs.Lines.{has_overlong}
+use Rattle.td_orders.specs.Placed.{placed}
 use Rattle.td_feed.specs.Fed.{EachTellsHistory, EachTellsSome}
 use Rattle.td_feed.specs.Carried.{new_to, Carries}
 use Rattle.td_feed.specs.Session.{limit_of, wanted_by, KeepsDisk, FeedsScript}
@@ -30,8 +31,10 @@ use Rattle.td_feed.proofs.Carrying.{as_long, in_some, ended_some, ended_all, non
 use Rattle.td_feed.proofs.Counting.{as_err, fault_of, lack_no_device}
 use Rattle.td_feed.proofs.Lines.{fed_says, says_copies, always_driven}
 use Rattle.std.proofs.lemmas.List.Elements.{All-nil}
-use Rattle.td_feed.proofs.Refused.{refused}
+use Rattle.td_report.specs.RefusedProofs.{refused}
 use Rattle.std.proofs.lemmas.Result.{on_ok_weaker}
+use Rattle.td_feed.specs.Caused.{IsOfStream}
+use Rattle.td_feed.proofs.Causes.{is_other, other_keeper, other_lack, refused_before, refused_at}
 use Rattle.td_feed.proofs.Sessions.{known, in_some_is, left_of, disk_same, disk_then, disk_recovered, disk_refused, refused_by}
 use Rattle.td_feed.proofs.streaming.stream.Goals as goal
 
@@ -220,12 +223,12 @@ returns-clause-fed g c = λ fits.
     record {
       streams = record {
         records = keeper.head.shape.m;
-        sound = on_ok_weaker r (λ (is : asked.is_sound ≡ true). still_sound raw.is_sound refuse told last raw.orders is) whole.sound;
-        no_gap = on_ok_weaker r (λ (is : asked.is_sound ≡ true) lawful history known.
+        sound = on_ok_weaker r (λ (is : asked.fault ≡ None). still_sound raw.fault refuse told last raw.orders is) whole.sound;
+        no_gap = on_ok_weaker r (λ (is : asked.fault ≡ None) lawful history known.
             let stood = stands lawful history known in
             let first = sym (last_of_history answers plan keeper.standing history stood) in
             let long = as_long answers plan keeper.standing history stood in
-            (λ i. (placed refuse (long i) (first i) raw).is_sound) ∙ is) whole.sound;
+            (λ i. (placed refuse (long i) (first i) raw).fault) ∙ is) whole.sound;
         fed = record {
           fed = on_ok_weaker r (λ (carries : Carries answers keeper new more) lawful history told.
               let is = stands lawful history told in
@@ -243,14 +246,14 @@ returns-clause-fed g c = λ fits.
         };
         held = λ hold lawful kept each.
             let at_most = most hold lawful kept each in
-            let said = seen_placed raw.is_sound refuse told last raw.orders kept in
+            let said = seen_placed raw.fault refuse told last raw.orders kept in
             subst (λ (d : g.row.D.Denot). EachKeepsTo plan (seen_after kept raw.orders) (view d).state) (sym c.into_disk.ensures.disk)
             (subst (λ (p : List Line). EachKeepsTo p (seen_after kept raw.orders) (view new.device).state) ((goes hold).plan ∙ c.in-Ok.ensures.plan)
             (λ i image t told. let low = c.each_keeps_to_its_base.ensures (left_lawful lawful) i image t told in omega (arith, low, at_most, said)));
         ever_held = λ hold lawful kept each.
             let short = (c.driven_keeps_to_its_base.ensures driven.commands driven.replies keeper new (c.in-Ok.ensures.device.lawful.0 lawful) driven.driven).1 in
             let at_most = most hold lawful kept each in
-            let said = seen_placed raw.is_sound refuse told last raw.orders kept in
+            let said = seen_placed raw.fault refuse told last raw.orders kept in
             let far : new.base ≤ seen_after kept raw.orders = omega (arith, at_most, said) in
             subst (λ (d : g.row.D.Denot). EverKeepsTo plan (seen_after kept raw.orders) (view old).state.moment (view d).state) (sym c.into_disk.ensures.disk)
             (ever plan (view old).state (view keeper.device).state (view new.device).state kept new.base (seen_after kept raw.orders) (c.in-Ok.ensures.crash_safe lawful)
@@ -294,3 +297,39 @@ returns-clause-seen g c = λ fits.
           (was.0, was.1, subst (λ (i : List ℕ). Told plan i (Ok keeper.standing)) was.2 (c.in-Ok.ensures.told lawful));
       seen = subst (λ (k : Keeping g.row.D.Denot). TellsSeen r (first_seen hold k.standing.epoch) (orders_at k) before after) c.watched-keeper.ensures.aside.1 (known _ remaining input is c.obey-keeper.ensures.seen);
     }))
+
+pub returns-in-Err-clause-fault : goal.returns-in-Err-clause-fault
+returns-in-Err-clause-fault g c =
+    in_some (g.I.Source.remaining c.args.reader)
+    (λ input. refused_before g.D.Disk.view g.L.Law.answers g.W.Sink.HasRoom c.args.options c.lack_fault.result c.args.plan.now c.args.disk input (ap is_other c.lack_fault.ensures.fault ∙ other_lack c.in-Err.lack))
+
+pub returns-in-Err-recover-clause-fault : goal.returns-in-Err-recover-clause-fault
+returns-in-Err-recover-clause-fault g c =
+    in_some (g.I.Source.remaining c.args.reader)
+    (λ input. refused_before g.D.Disk.view g.L.Law.answers g.W.Sink.HasRoom c.args.options c.from.result c.args.plan.now c.args.disk input (ap is_other c.from.ensures ∙ other_keeper c.in-Err-recover.refusal))
+
+pub returns-clause-fault : goal.returns-clause-fault
+returns-clause-fault g c =
+    let view = g.D.Disk.view in
+    let answers = g.L.Law.answers in
+    let has = g.W.Sink.HasRoom in
+    let plan = c.args.plan.now in
+    let old = c.args.disk in
+    let keeper : Keeping g.row.D.Denot = (record c.in-Ok.keeper { watch = c.watched-keeper.ensures.aside.0 }) in
+    let r = c.obey-keeper.result.1 in
+    let refuse = c.args.options.refuse in
+    let remaining = g.I.Source.remaining c.args.reader in
+    in_some_is remaining
+    (λ input is.
+    let script_at : Keeping g.row.D.Denot → Script =
+    λ k. placed refuse (last_epoch k.standing) (last_request k.standing) (script_of c.args.options.placing c.args.options.hold c.args.options.questions c.args.options.copies (limit_of refuse k.head.shape.m) plan input) in
+    refused_at view answers has c.args.options r plan old input keeper.head.shape.m (last_epoch keeper.standing) (last_request keeper.standing)
+    (subst (λ (rest : Option (List ℕ)). IfErr r (IsOfStream (has_overlong rest) (script_at keeper) has)) is
+    (subst (λ (k : Keeping g.row.D.Denot). IfErr r (IsOfStream (has_overlong remaining) (script_at k) has)) c.watched-keeper.ensures.aside.1 (known _ remaining input is c.obey-keeper.ensures.fault)))
+    (λ lawful history known.
+    let safe : CrashSafe Unchanged (view old).state (view keeper.device).state = c.in-Ok.ensures.crash_safe lawful in
+    let stood =
+    found answers plan history (view old).state (view keeper.device).state safe
+    (λ i image. g.met.D.Disk.counts_now keeper.device (view old).state.moment i (c.in-Ok.ensures.device.lawful.0 lawful) safe.later image) known
+    c.told_in_parts.ensures.one_answer (g.met.D.Disk.reads_image keeper.device (c.in-Ok.ensures.device.lawful.0 lawful)) keeper.standing (c.in-Ok.ensures.told lawful) in
+    (sym (as_long answers plan keeper.standing history stood), last_of_history answers plan keeper.standing history stood)))

@@ -1,6 +1,8 @@
 use Rattle.std.proofs.Common.{◌≡◌, sym, subst, IfSome}
+use Rattle.std.specs.Prelude.{IfErr}
 use Rattle.td_store.specs.standing.Standing.{last_epoch, last_request}
 use Rattle.td_keeper.specs.Keeping.{Keeping}
+use Rattle.td_feed.specs.Caused.{IsOfStream}
 use Rattle.td_feed.specs.Held.{KeepsTo, TellsSeen, seen_at, then_seen}
 use Rattle.td_feed.specs.Session.{KeepsDisk, FeedsScript}
 use Rattle.td_feed.proofs.workers.obey_at_pool.Goals as goal
@@ -31,3 +33,9 @@ returns-clause-seen g c =
     handed_over (λ (k m : Keeping g.row.D.Denot). IfSome (g.S.Asking.script (last_epoch k.standing) (last_request k.standing) c.args.orders.now)
     (λ script. TellsSeen c.obey_each-obeyed.result (seen_at c.args.feeding.pace k.standing.epoch) script.orders (g.H.Host.seen c.args.host.now) (g.H.Host.seen c.obey_each-obeyed.new.host)))
     c.new-engine.result c.args.keeper c.obey_each-obeyed.new.engine.engine c.into_keeper.result c.new-engine.ensures c.into_keeper.ensures c.obey_each-obeyed.ensures.seen
+
+pub returns-clause-fault : goal.returns-clause-fault
+returns-clause-fault g c =
+    subst (λ (k : Keeping g.row.D.Denot). IfSome (g.S.Asking.script (last_epoch k.standing) (last_request k.standing) c.args.orders.now)
+    (λ script. IfErr c.obey_each-obeyed.result (IsOfStream (g.S.Asking.overlong c.args.orders.now) script g.W.Sink.HasRoom)))
+    c.new-engine.ensures c.obey_each-obeyed.ensures.fault

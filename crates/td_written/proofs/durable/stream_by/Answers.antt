@@ -1,15 +1,26 @@
-use Rattle.std.proofs.Common.{subst, ◌==◌}
+use Rattle.std.proofs.Common.{◌≡◌, ◌==◌, refl, subst}
+use Rattle.std.specs.Prelude.{Option, None, Some, IfSome, Result, Ok, Err, OnOk}
+use Rattle.td_calls.specs.declared.error.CallsError.{CallsError}
+use Rattle.td_console.specs.declared.faults.Fault.{Fault}
+use Rattle.td_console.specs.Answer.{lack_fault}
 use Rattle.td_feed.specs.Working.{Working}
 use Rattle.td_written.specs.Beside.{stored_beside}
 use Rattle.td_written.specs.Durable.{StreamsBy}
 use Rattle.td_written.proofs.durable.stream_by.Goals as goal
+
+-- after Ok there was no closure that lacks
+fits_after : (P : CallsError → Type 0) (lack : Option CallsError) (r : Result (Unit {0}) Fault) → IfSome lack P → ((l : CallsError) → P l → r ≡ Err (lack_fault l)) → OnOk r (lack ≡ None)
+fits_after P None (Ok d) is first = refl
+fits_after P None (Err f) is first = tt
+fits_after P (Some l) (Ok d) is first = absurd (let no = first l is in cc)
+fits_after P (Some l) (Err f) is first = tt
 
 -- by a session of this plan, of so many workers and of these closures
 pub returns : goal.returns
 returns g c =
     let fed = c.stream.ensures in
     subst (λ (s : Working _). StreamsBy (stored_beside g.L.Law.answers g.C.Closures.has_map g.C.Closures.has_group g.C.Closures.has_fold s.calls.below g.F.Formulas.closures)
-    g.D.Disk.view g.I.Source.remaining g.W.Sink.contents g.W.Voice.marks g.H.New.Disk.view
+    g.D.Disk.view g.I.Source.remaining g.W.Sink.contents g.W.Sink.HasRoom g.W.Voice.marks g.H.New.Disk.view
     g.H.Host.copies g.H.Host.seen s.plan c.args.options (s.workers == 1)
     c.args.disk c.stream.result.0 c.args.reader c.args.writer.now c.stream.new.writer c.args.host.now c.stream.new.host c.stream.result.1) c.new.ensures
-    (record { disk_is_kept = fed.disk; lack = fed.lack; fits = fed.fits; fed = fed.fed; seen = fed.seen })
+    (record { disk_is_kept = fed.disk; lack = fed.lack; fits = fits_after _ _ _ fed.lack (λ l is. is.0); fault = fed.fault; fed = fed.fed; seen = fed.seen })

@@ -1,12 +1,13 @@
-use Rattle.std.proofs.Common.{rules, ◌≡◌, ◌∙◌, ℕ, [], ◌∷◌, refl, sym, ap, subst}
-use Rattle.td_feed.specs.declared.at_once.Asked.{Asked}
-use Rattle.td_feed.specs.declared.at_once.Asked.TheVariants.{One}
-use Rattle.td_feed.specs.declared.order.Order.{Order}
-use Rattle.td_feed.specs.declared.order.Order.TheVariants.{SubmitAt}
-use Rattle.td_feed.specs.Asked.{asked_for, notes_for}
+use Rattle.std.proofs.Common.{rules, ◌≡◌, ◌∙◌, ℕ, List, [], ◌∷◌, refl, sym, ap, subst}
+use Rattle.td_orders.specs.declared.at_once.Asked.{Asked}
+use Rattle.td_orders.specs.declared.at_once.Asked.TheVariants.{One}
+use Rattle.td_orders.specs.declared.order.Order.{Order}
+use Rattle.td_orders.specs.declared.order.Order.TheVariants.{SubmitAt}
+use Rattle.td_orders.specs.Scripts.{asked_for, notes_for}
+use Rattle.td_journal.specs.declared.submitted.Submitted.{Submitted}
 use Rattle.td_feed.specs.Carried.{new_to}
 use Rattle.td_keeper.specs.Keeping.{Keeping}
-use Rattle.td_feed.specs.Noted.Aside.{to_say, to_answer, to_copy}
+use Rattle.td_orders.specs.Noted.Aside.{to_say, to_answer, to_copy}
 use Rattle.td_feed.specs.Session.{FeedsCopying}
 use Rattle.td_feed.proofs.Lines.{no_device_if, no_device_said}
 use Rattle.td_feed.proofs.Sessions.{ok_no_device, disk_same, fed_nothing, fed_note, fed_uncopied}
@@ -68,7 +69,9 @@ returns-in-Epochs-clause-fed g c =
     let new = g.E.Obey.keeping c.submit.new.engine in
     let kept = g.H.Host.copies c.args.host.now in
     subst (λ (a : Asked). FeedsCopying g.D.Disk.view g.L.Law.answers g.W.Voice.marks g.H.New.Disk.view c.submit.result (g.W.Sink.contents c.args.writer.now) (g.W.Sink.contents c.submit.new.writer) kept kept old new (new_to old (asked_for a)) (notes_for a))
-    (sym (c.in-Epochs.is)) (fed_uncopied [] refl refl c.submit.ensures.fed)
+    (sym (c.in-Epochs.is))
+    (subst (λ (x : List Submitted). FeedsCopying g.D.Disk.view g.L.Law.answers g.W.Voice.marks g.H.New.Disk.view c.submit.result (g.W.Sink.contents c.args.writer.now) (g.W.Sink.contents c.submit.new.writer) kept kept old new (new_to old x) []) c.from_vec.ensures
+    (fed_uncopied [] refl refl c.submit.ensures.fed))
 
 pub returns-in-Submit-clause-fed : goal.returns-in-Submit-clause-fed
 returns-in-Submit-clause-fed g c =

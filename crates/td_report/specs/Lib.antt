@@ -1,0 +1,4 @@
+pub mod Narrowed
+pub mod Shown
+pub mod RefusedProofs
+pub mod Dumped
