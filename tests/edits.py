@@ -92,7 +92,7 @@ class Edit:
     def heads(self, crate, rt):
         """The names of the functions in which its last change may stand: the last one whose head stands above it, and those whose heads it changes
         or adds."""
-        begin = self.text.rindex("old: ")
+        begin = self.text.rindex("\nold: ") + 1
         earlier, _ = rt.edited(self.text[:begin], crate.folder)
         before = (earlier or {}).get(self.path()) or pathlib.Path(crate.folder, self.path()).read_text(encoding="utf-8")
         old = self.text[begin + len("old: "):].split("\n")[0]

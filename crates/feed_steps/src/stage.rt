@@ -216,13 +216,9 @@ impl Stage {
         }
         let disk = self.take()?;
         let session = Session::<Stock, C, _>::new(rt, self.alloc, &self.plan, workers, calls);
-        let (device, ended) = session.feed(
-            disk,
-            &mut input.as_bytes(),
-            &mut StdWriter(io::writer(rt)),
-        );
-        self.put_back(device);
-        print_ended(rt, ended)
+        let fed = session.feed(disk, &mut input.as_bytes(), StdWriter(io::writer(rt)));
+        self.put_back(fed.disk);
+        print_ended(rt, fed.ended)
     }
 }
 

@@ -336,22 +336,21 @@ fn run_engine<
             picks.as_slice(),
         )?),
         Engine::Feed(disk, plan, workers, closures) => {
-            let (_disk, fed) = feed::<_, _, _, Catalogue, Shelves, _>(
+            let fed = feed::<_, _, _, Catalogue, Shelves, _>(
                 rt,
                 rt.alloc(),
                 disk,
                 &plan,
                 workers,
                 &mut reader,
-                &mut writer,
+                writer,
                 Shelves,
                 closures,
             );
-            Ok(fed?)
+            Ok(fed.ended?)
         }
         Engine::Stream(disk, path, plan, workers, options, telling, closures) => {
             if options.marks {
-                let mut writer = Marked(writer);
                 stream_told(
                     rt,
                     disk,
@@ -360,22 +359,13 @@ fn run_engine<
                     workers,
                     options,
                     reader,
-                    &mut writer,
+                    Marked(writer),
                     telling,
                     closures,
                 )
             } else {
                 stream_told(
-                    rt,
-                    disk,
-                    path,
-                    &plan,
-                    workers,
-                    options,
-                    reader,
-                    &mut writer,
-                    telling,
-                    closures,
+                    rt, disk, path, &plan, workers, options, reader, writer, telling, closures,
                 )
             }
         }

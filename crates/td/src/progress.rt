@@ -85,7 +85,7 @@ impl Ending {
 /// disk in the file at `path`, with place and cause; and `Memory`, before it is called, where there is no room for a watch or no thread.
 pub(crate) fn stream_told<
     I: Source + Drop,
-    W: Voice,
+    W: Voice + Drop,
     R: Files<File = File> + Places + Threads + Wait + AllocGlobal + Sync + Send + Copy + 'static,
 >(
     rt: &R,
@@ -95,7 +95,7 @@ pub(crate) fn stream_told<
     workers: u8,
     options: StreamOptions<'_>,
     reader: I,
-    writer: &mut W,
+    writer: W,
     telling: Telling<'_>,
     closures: Vec<Closure>,
 ) -> Result<(), Refusal>
@@ -111,9 +111,9 @@ pub(crate) fn stream_told<
     let watch = followed(rt, telling, path, shape, &gauge, &ending)?;
     let disk = Metered::new(disk, Arc::try_clone(&gauge)?, shape);
     let told = Arc::try_clone(&gauge)?;
-    let mut host = StreamHost::new(rt, told, options.copies, closures_text);
+    let host = StreamHost::new(rt, told, options.copies, closures_text);
     let reader = Noticed::new(reader, gauge);
-    let (disk, ended) = stream::<_, _, _, _, Catalogue, Shelves, _>(
+    let fed = stream::<_, _, _, _, Catalogue, Shelves, _>(
         rt,
         rt.alloc(),
         disk,
@@ -131,7 +131,7 @@ pub(crate) fn stream_told<
         reader,
         writer,
         watch,
-        &mut host,
+        host,
         Shelves,
         closures,
     );
@@ -141,7 +141,7 @@ pub(crate) fn stream_told<
         let _ = ending.of_telling.wait(rt);
     }
     drop(held);
-    ended_as(rt.alloc(), disk, path, plan, options, ended)
+    ended_as(rt.alloc(), fed.disk, path, plan, options, fed.ended)
 }
 
 /// How a stream ended: as its fault, with the place and the cause on the disk in the file at `path`.

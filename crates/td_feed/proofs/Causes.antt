@@ -37,7 +37,7 @@ use Rattle.td_feed.specs.Caused.{is_of_keeper, IsOfWriter, IsOfAsked, IsOfScript
 use Rattle.td_feed.proofs.Counting.{fault_of}
 use Rattle.td_feed.proofs.Lines.{EndedAs}
 use Rattle.td_feed.proofs.Obeyed.{IsPart}
-use Rattle.td_feed.proofs.Placed.{script_at}
+use Rattle.td_feed.specs.Served.{script_at}
 
 told_error : (e : KeeperError) → is_of_keeper (keeper_fault e) ≡ true
 told_error keeper.Memory = refl

@@ -147,6 +147,10 @@ memory_no_device is = absurd (let not_so = is in cc)
 pub epochs_no_device : as_err (Unit {0}) (Keeper error.Epochs) ≡ as_err (Unit {0}) (Keeper error.Device) → ⊥
 epochs_no_device is = absurd (let not_so = is in cc)
 
+pub opening_no_device : {T : Type 0} (f : Fault) → (f ≡ Memory) ⊎ ((f ≡ Keeper error.Epochs) × T) → as_err (Unit {0}) f ≡ as_err (Unit {0}) (Keeper error.Device) → ⊥
+opening_no_device f (inl memory) is = memory_no_device (ap (as_err (Unit {0})) (sym memory) ∙ is)
+opening_no_device f (inr epochs) is = epochs_no_device (ap (as_err (Unit {0})) (sym epochs.0) ∙ is)
+
 -- which refusal of a keeper's the device's fault is
 pub keeper_device : (e : KeeperError) → keeper_fault e ≡ Keeper error.Device → e ≡ error.Device
 keeper_device error.Device is = refl

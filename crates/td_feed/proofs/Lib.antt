@@ -3,6 +3,7 @@ mod Carrying
 pub mod Told
 pub mod Held
 pub mod SeenAsked
+pub mod Replies
 pub mod Lines
 pub mod Copies
 pub mod Counting
@@ -12,3 +13,5 @@ pub mod Acknowledged
 pub mod Sessions
 pub mod Moments
 pub mod Causes
+pub mod Serving
+pub mod Plain

@@ -25,10 +25,10 @@ use Rattle.td_questions.specs.declared.question.Wanted.{Wanted as Of}
 use Rattle.td_head.specs.Layout.{Sizes}
 use Rattle.td_orders.specs.Noted.{Aside, copied_in, note_line}
 use Rattle.td_orders.specs.Noted.Aside.{to_say, to_answer, to_copy}
-use Rattle.td_feed.specs.Carried.{is_refused}
 use Rattle.td_feed.specs.Fed.{pool_fault}
-use Rattle.td_feed.specs.Said.{request_in, line_of, answer_text, full_line, copied_line, not_copied_line, Saying, commands_in, replies_in, notes_among, lines_of, Wanted, Says, SaysSome, SaysUnheard, SaysBy, SaysFrom, SaysFed, copies_said, Refuses}
+use Rattle.td_feed.specs.Said.{request_in, line_of, answer_text, full_line, copied_line, not_copied_line, Saying, commands_in, replies_in, notes_among, lines_of, Wanted, Says, SaysSome, SaysUnheard, SaysBy, SaysFrom, SaysFed, IsOfReplies, copies_said, Refuses}
 use Rattle.td_feed.specs.Said.Saying.{replied, aside, full, answered, copied, not_copied}
+use Rattle.td_feed.proofs.Replies.{of_memory, for_memory, of_reply, of_pool_error}
 
 -- whether a command's reply has no line
 abbrev pub is_quiet : Command → Bool
@@ -88,6 +88,16 @@ module _ {D : Type 0} (view : D → DiskView) (answers : Answers) (marks : Bool)
   lines-append (copied n s e ∷ ss) ts = ap (λ (l : List ℕ). copied_line n e ++ l) (lines-append ss ts) ∙ sym (append_assoc (copied_line n e) (lines_of marks ss) (lines_of marks ts))
   lines-append (not_copied n s w ∷ ss) ts = ap (λ (l : List ℕ). not_copied_line n w ++ l) (lines-append ss ts) ∙ sym (append_assoc (not_copied_line n w) (lines_of marks ss) (lines_of marks ts))
   lines-append (full e ∷ ss) ts = ap (λ (l : List ℕ). full_line e ++ l) (lines-append ss ts) ∙ sym (append_assoc (full_line e) (lines_of marks ss) (lines_of marks ts))
+
+  -- a refusal that is among the replies to the last of what was said is among all
+  cause-append : (f : Fault) (ss ts : List Saying) → IsOfReplies f (replies_in ts) → IsOfReplies f (replies_in (ss ++ ts))
+  cause-append f [] ts is = is
+  cause-append f (replied x r ∷ ss) ts is = λ e same. ⊎_elim inl (λ among. inr (inr among)) (cause-append f ss ts is e same)
+  cause-append f (aside n ∷ ss) ts is = cause-append f ss ts is
+  cause-append f (full e ∷ ss) ts is = cause-append f ss ts is
+  cause-append f (answered v q r ∷ ss) ts is = λ e same. ⊎_elim inl (λ among. inr (inr among)) (cause-append f ss ts is e same)
+  cause-append f (copied n s e ∷ ss) ts is = cause-append f ss ts is
+  cause-append f (not_copied n s w ∷ ss) ts is = cause-append f ss ts is
 
   -- the notes of two, where the second has only the first of them
   some_noted : (ss ts : List Saying) (later ns ms : List Aside) → notes_among ss ≡ ns → notes_among ts ++ later ≡ ms → notes_among (ss ++ ts) ++ later ≡ ns ++ ms
@@ -151,9 +161,9 @@ module _ {D : Type 0} (view : D → DiskView) (answers : Answers) (marks : Bool)
     said = subst (λ (l : List ℕ). Appends u w l) (sym (lines-append first.sayings rest.sayings)) (Appends-trans u v w (lines_of marks first.sayings) (lines_of marks rest.sayings) first.said rest.said);
   }
 
-  pub then_some : (u v w : Option (List ℕ)) (a b c : Keeping D) (x : List AnySubmitted) (ns ms : List Aside) → Says view answers marks u v a b x ns
-      → SaysSome view answers marks v w b c ms → SaysSome view answers marks u w a c (ns ++ ms)
-  then_some u v w a b c x ns ms first rest = record {
+  pub then_some : {f : Fault} (u v w : Option (List ℕ)) (a b c : Keeping D) (x : List AnySubmitted) (ns ms : List Aside) → Says view answers marks u v a b x ns
+      → SaysSome view answers marks f v w b c ms → SaysSome view answers marks f u w a c (ns ++ ms)
+  then_some {f = f} u v w a b c x ns ms first rest = record {
     sayings = first.sayings ++ rest.sayings;
     driven = told-append first.sayings rest.sayings a b c first.driven rest.driven;
     later = rest.later;
@@ -162,12 +172,13 @@ module _ {D : Type 0} (view : D → DiskView) (answers : Answers) (marks : Bool)
     unsaid = rest.unsaid;
     lines = lines-append first.sayings rest.sayings ∙ ap (λ (l : List ℕ). lines_of marks first.sayings ++ l) rest.lines ∙ sym (append_assoc (lines_of marks first.sayings) rest.text rest.unsaid);
     said = Appends-trans u v w (lines_of marks first.sayings) rest.text first.said rest.said;
+    cause = cause-append f first.sayings rest.sayings rest.cause;
   }
 
-  -- all is some
-  pub some_of_all : (u v : Option (List ℕ)) (a b : Keeping D) (x : List AnySubmitted) (ns : List Aside) → Says view answers marks u v a b x ns
-      → SaysSome view answers marks u v a b ns
-  some_of_all u v a b x ns all = record {
+  -- all is some, whatever the replies
+  pub some_of_all : (f : Fault) (u v : Option (List ℕ)) (a b : Keeping D) (x : List AnySubmitted) (ns : List Aside) → ((rs : List Reply) → IsOfReplies f rs) → Says view answers marks u v a b x ns
+      → SaysSome view answers marks f u v a b ns
+  some_of_all f u v a b x ns cause all = record {
     sayings = all.sayings;
     driven = all.driven;
     later = [];
@@ -176,11 +187,26 @@ module _ {D : Type 0} (view : D → DiskView) (answers : Answers) (marks : Bool)
     unsaid = [];
     lines = sym (append-nil (lines_of marks all.sayings));
     said = all.said;
+    cause = cause (replies_in all.sayings);
+  }
+
+  -- the same at another refusal
+  pub some_for : (f e : Fault) (u v : Option (List ℕ)) (a b : Keeping D) (ns : List Aside) → ((rs : List Reply) → IsOfReplies f rs) → SaysSome view answers marks e u v a b ns → SaysSome view answers marks f u v a b ns
+  some_for f e u v a b ns cause some = record {
+    sayings = some.sayings;
+    driven = some.driven;
+    later = some.later;
+    noted = some.noted;
+    text = some.text;
+    unsaid = some.unsaid;
+    lines = some.lines;
+    said = some.said;
+    cause = cause (replies_in some.sayings);
   }
 
   -- of more notes
-  pub some_of_more : (u v : Option (List ℕ)) (a b : Keeping D) (ns more ms : List Aside) → ns ++ more ≡ ms → SaysSome view answers marks u v a b ns
-      → SaysSome view answers marks u v a b ms
+  pub some_of_more : {f : Fault} (u v : Option (List ℕ)) (a b : Keeping D) (ns more ms : List Aside) → ns ++ more ≡ ms → SaysSome view answers marks f u v a b ns
+      → SaysSome view answers marks f u v a b ms
   some_of_more u v a b ns more ms is some = record {
     sayings = some.sayings;
     driven = some.driven;
@@ -190,30 +216,30 @@ module _ {D : Type 0} (view : D → DiskView) (answers : Answers) (marks : Bool)
     unsaid = some.unsaid;
     lines = some.lines;
     said = some.said;
+    cause = some.cause;
   }
 
   -- the last line was not written
-  pub unsaid_one : (w : Option (List ℕ)) (c : Command) (r : Reply) (old new : Keeping D) → Driven view answers (c ∷ []) (r ∷ []) old new
-      → SaysSome view answers marks w w old new []
-  unsaid_one w c r old new driven =
-      record { sayings = replied c r ∷ []; driven = driven; later = []; noted = refl; text = []; unsaid = lines_of marks (replied c r ∷ []); lines = refl; said = Appends-nil w }
+  pub unsaid_one : (f : Fault) (w : Option (List ℕ)) (c : Command) (r : Reply) (old new : Keeping D) → IsOfReplies f (r ∷ []) → Driven view answers (c ∷ []) (r ∷ []) old new
+      → SaysSome view answers marks f w w old new []
+  unsaid_one f w c r old new cause driven =
+      record { sayings = replied c r ∷ []; driven = driven; later = []; noted = refl; text = []; unsaid = lines_of marks (replied c r ∷ []); lines = refl; said = Appends-nil w; cause = cause }
 
-  pub unsaid_none : (w : Option (List ℕ)) (k : Keeping D) (ns : List Aside) → SaysSome view answers marks w w k k ns
-  unsaid_none w k ns = record { sayings = []; driven = refl; later = ns; noted = refl; text = []; unsaid = []; lines = refl; said = Appends-nil w }
+  pub unsaid_none : (f : Fault) (w : Option (List ℕ)) (k : Keeping D) (ns : List Aside) → IsOfReplies f [] → SaysSome view answers marks f w w k k ns
+  unsaid_none f w k ns cause = record { sayings = []; driven = refl; later = ns; noted = refl; text = []; unsaid = []; lines = refl; said = Appends-nil w; cause = cause }
 
   -- a refused command writes nothing
-  pub refused_some : (w : Option (List ℕ)) (c : Command) (old new : Keeping D) → Refuses view answers c old new → SaysSome view answers marks w w old new []
-  refused_some w c old new (inl is) = record { sayings = []; driven = is; later = []; noted = refl; text = []; unsaid = []; lines = refl; said = Appends-nil w }
-  refused_some w c old new (inr told) = unsaid_one w c told.0 old new told.2
+  pub refused_some : (f : Fault) (w : Option (List ℕ)) (c : Command) (old new : Keeping D) → Refuses view answers f c old new → SaysSome view answers marks f w w old new []
+  refused_some f w c old new told = unsaid_one f w c told.reply old new (of_reply f told.reply told.refused told.fault_is) told.driven
 
   -- whatever was written, the keeper was told
-  pub unheard : (u v : Option (List ℕ)) (a b : Keeping D) (ns : List Aside) → SaysSome view answers marks u v a b ns → SaysUnheard view answers marks a b
+  pub unheard : {f : Fault} (u v : Option (List ℕ)) (a b : Keeping D) (ns : List Aside) → SaysSome view answers marks f u v a b ns → SaysUnheard view answers marks a b
   unheard u v a b ns some = record { commands = commands_in some.sayings; replies = replies_in some.sayings; driven = some.driven }
 
   -- whatever came of it, the keeper was told commands
   pub always_driven : (result : Result (Unit {0}) Fault) (u v : Option (List ℕ)) (a b : Keeping D) (x : List AnySubmitted) (ns : List Aside) → SaysBy view answers marks result u v a b x ns
       → SaysUnheard view answers marks a b
-  always_driven (Ok done) u v a b x ns all = unheard u v a b ns (some_of_all u v a b x ns all)
+  always_driven (Ok done) u v a b x ns all = unheard u v a b ns (some_of_all Memory u v a b x ns of_memory all)
   always_driven (Err fault) u v a b x ns said = ⊎_elim (λ output. output.1) (λ some. unheard u v a b ns some) said
 
   driven-append : (cs : List Command) (rs : List Reply) (ds : List Command) (ss : List Reply) (a b c : Keeping D) → Driven view answers cs rs a b
@@ -242,7 +268,7 @@ module _ {D : Type 0} (view : D → DiskView) (answers : Answers) (marks : Bool)
   by_ok result u v a b x ns is says = subst (λ (r : Result (Unit {0}) Fault). SaysBy view answers marks r u v a b x ns) (sym is) says
 
   pub by_refusal : (result : Result (Unit {0}) Fault) (P : Fault → Type 0) (u v : Option (List ℕ)) (a b : Keeping D) (x : List AnySubmitted) (ns : List Aside) → IsErrAnd result P
-      → ((f : Fault) → P f → ((f ≡ Output) × SaysUnheard view answers marks a b) ⊎ SaysSome view answers marks u v a b ns)
+      → ((f : Fault) → P f → ((f ≡ Output) × SaysUnheard view answers marks a b) ⊎ SaysSome view answers marks f u v a b ns)
       → SaysBy view answers marks result u v a b x ns
   by_refusal (Ok done) P u v a b x ns none step = absurd none
   by_refusal (Err fault) P u v a b x ns is step = step fault is
@@ -254,7 +280,7 @@ module _ {D : Type 0} (view : D → DiskView) (answers : Answers) (marks : Bool)
   handed_on (Ok done) e u v w a b c x y z ns ms more all whole none first rest = absurd none
   handed_on (Err f) e u v w a b c x y z ns ms more all whole is first rest =
       ⊎_elim (λ output. inl (is ∙ output.0, then_unheard u v a b c x ns first output.1))
-      (λ some. inr (some_of_more u w a c (ns ++ ms) more all whole (then_some u v w a b c x ns ms first some))) rest
+      (λ some. inr (subst (λ (d : Fault). SaysSome view answers marks d u w a c all) (sym is) (some_of_more u w a c (ns ++ ms) more all whole (then_some u v w a b c x ns ms first some)))) rest
 
   -- a command whose reply has no line
   pub says_silent : (w : Option (List ℕ)) (c : Command) (r : Reply) (old new : Keeping D) → Driven view answers (c ∷ []) (r ∷ []) old new → line_of marks (request_in c) r ≡ []
@@ -374,15 +400,16 @@ module _ {D : Type 0} (view : D → DiskView) (answers : Answers) (marks : Bool)
   said_by (Ok done) w v c r old new x P driven is said none same =
       subst (λ (l : List AnySubmitted). Says view answers marks w v old new l []) is (says_one w v c r old new driven said)
   said_by (Err f) w v c r old new x P driven is said why same =
-      ⊎_elim (λ output. inl (output, unheard w w old new [] (unsaid_one w c r old new driven))) (λ memory. inr (subst (λ (u : Option (List ℕ)). SaysSome view answers marks w u old new []) (sym (same memory.1)) (unsaid_one w c r old new driven))) why
+      ⊎_elim (λ output. inl (output, unheard w w old new [] (unsaid_one Memory w c r old new (of_memory (r ∷ [])) driven)))
+      (λ memory. inr (subst (λ (u : Option (List ℕ)). SaysSome view answers marks f w u old new []) (sym (same memory.1)) (unsaid_one f w c r old new (for_memory f memory.0 (r ∷ [])) driven))) why
 
   -- the line of a note, where it was to be written
   pub noted_by : (result : Result (Unit {0}) Fault) (w v : Option (List ℕ)) (n : Note) (k : Keeping D) (P : Type 0) → OnOk result (Appends w v (note_line n))
       → IfErr result (λ f. (f ≡ Output) ⊎ ((f ≡ Memory) × P)) → (P → v ≡ w) → SaysBy view answers marks result w v k k [] (to_say n ∷ [])
   noted_by (Ok done) w v n k P said none same = says_note w v n k said
   noted_by (Err f) w v n k P said why same =
-      ⊎_elim (λ output. inl (output, unheard w w k k (to_say n ∷ []) (unsaid_none w k (to_say n ∷ []))))
-      (λ memory. inr (subst (λ (u : Option (List ℕ)). SaysSome view answers marks w u k k (to_say n ∷ [])) (sym (same memory.1)) (unsaid_none w k (to_say n ∷ [])))) why
+      ⊎_elim (λ output. inl (output, unheard w w k k (to_say n ∷ []) (unsaid_none Memory w k (to_say n ∷ []) (of_memory []))))
+      (λ memory. inr (subst (λ (u : Option (List ℕ)). SaysSome view answers marks f w u k k (to_say n ∷ [])) (sym (same memory.1)) (unsaid_none f w k (to_say n ∷ []) (for_memory f memory.0 [])))) why
 
   -- that a copy was made was written, or why it was not
   pub says_copied : (before after : Option (List ℕ)) (n : List ℕ) (s : Sizes) (e : ℕ) (k : Keeping D) → Appends before after (copied_line n e) → Says view answers marks before after k k [] (to_copy n s (Some e) ∷ [])
@@ -408,13 +435,13 @@ module _ {D : Type 0} (view : D → DiskView) (answers : Answers) (marks : Bool)
       → OnOk result (Appends w v line) → IfErr result (λ f. (f ≡ Output) ⊎ ((f ≡ Memory) × P)) → (P → v ≡ w) → SaysBy view answers marks result w v k k [] ns
   line_by (Ok done) w v line ns k P says said none same = says said
   line_by (Err f) w v line ns k P says said why same =
-      ⊎_elim (λ output. inl (output, unheard w w k k ns (unsaid_none w k ns)))
-      (λ memory. inr (subst (λ (u : Option (List ℕ)). SaysSome view answers marks w u k k ns) (sym (same memory.1)) (unsaid_none w k ns))) why
+      ⊎_elim (λ output. inl (output, unheard w w k k ns (unsaid_none Memory w k ns (of_memory []))))
+      (λ memory. inr (subst (λ (u : Option (List ℕ)). SaysSome view answers marks f w u k k ns) (sym (same memory.1)) (unsaid_none f w k ns (for_memory f memory.0 [])))) why
 
   -- an answer, of which nothing was written
-  unsaid_answer : (w : Option (List ℕ)) (v : ℕ) (q : Of) (r : Reply) (old new : Keeping D) → Driven view answers (Answer v q ∷ []) (r ∷ []) old new
-      → SaysSome view answers marks w w old new (to_answer v q ∷ [])
-  unsaid_answer w v q r old new driven = record {
+  unsaid_answer : (f : Fault) (w : Option (List ℕ)) (v : ℕ) (q : Of) (r : Reply) (old new : Keeping D) → IsOfReplies f (r ∷ []) → Driven view answers (Answer v q ∷ []) (r ∷ []) old new
+      → SaysSome view answers marks f w w old new (to_answer v q ∷ [])
+  unsaid_answer f w v q r old new cause driven = record {
     sayings = answered v q r ∷ [];
     driven = driven;
     later = [];
@@ -423,6 +450,7 @@ module _ {D : Type 0} (view : D → DiskView) (answers : Answers) (marks : Bool)
     unsaid = lines_of marks (answered v q r ∷ []);
     lines = refl;
     said = Appends-nil w;
+    cause = cause;
   }
 
   -- the lines of an answer, where they were to be written
@@ -431,20 +459,20 @@ module _ {D : Type 0} (view : D → DiskView) (answers : Answers) (marks : Bool)
       → IfErr result (λ f. (f ≡ Output) ⊎ ((f ≡ Memory) × P)) → (P → u ≡ w) → SaysBy view answers marks result w u old new [] (to_answer v q ∷ [])
   answered_by (Ok done) w u v q r old new P driven said none same = says_answer w u v q r old new driven said
   answered_by (Err f) w u v q r old new P driven said why same =
-      ⊎_elim (λ output. inl (output, unheard w w old new (to_answer v q ∷ []) (unsaid_answer w v q r old new driven)))
-      (λ memory. inr (subst (λ (t : Option (List ℕ)). SaysSome view answers marks w t old new (to_answer v q ∷ [])) (sym (same memory.1)) (unsaid_answer w v q r old new driven))) why
+      ⊎_elim (λ output. inl (output, unheard w w old new (to_answer v q ∷ []) (unsaid_answer Memory w v q r old new (of_memory (r ∷ [])) driven)))
+      (λ memory. inr (subst (λ (t : Option (List ℕ)). SaysSome view answers marks f w t old new (to_answer v q ∷ [])) (sym (same memory.1)) (unsaid_answer f w v q r old new (for_memory f memory.0 (r ∷ [])) driven))) why
 
   -- a question that was not answered
-  pub unanswered : (w : Option (List ℕ)) (c : Command) (old new : Keeping D) (ns : List Aside) → Refuses view answers c old new → SaysSome view answers marks w w old new ns
-  unanswered w c old new ns refuses = some_of_more w w old new [] ns ns refl (refused_some w c old new refuses)
+  pub unanswered : (f : Fault) (w : Option (List ℕ)) (c : Command) (old new : Keeping D) (ns : List Aside) → Refuses view answers f c old new → SaysSome view answers marks f w w old new ns
+  unanswered f w c old new ns refuses = some_of_more w w old new [] ns ns refl (refused_some f w c old new refuses)
 
   -- the line that the journal is full, where it was to be written
   pub full_by : (result : Result (Unit {0}) Fault) (w v : Option (List ℕ)) (e : ℕ) (k : Keeping D) (P : Type 0) → OnOk result (Appends w v (full_line e))
       → IfErr result (λ f. (f ≡ Output) ⊎ ((f ≡ Memory) × P)) → (P → v ≡ w) → SaysBy view answers marks result w v k k [] []
   full_by (Ok done) w v e k P said none same = says_full w v e k said
   full_by (Err f) w v e k P said why same =
-      ⊎_elim (λ output. inl (output, unheard w w k k [] (unsaid_none w k [])))
-      (λ memory. inr (subst (λ (u : Option (List ℕ)). SaysSome view answers marks w u k k []) (sym (same memory.1)) (unsaid_none w k []))) why
+      ⊎_elim (λ output. inl (output, unheard w w k k [] (unsaid_none Memory w k [] (of_memory []))))
+      (λ memory. inr (subst (λ (u : Option (List ℕ)). SaysSome view answers marks f w u k k []) (sym (same memory.1)) (unsaid_none f w k [] (for_memory f memory.0 [])))) why
 
   -- after what was said
   pub then_quiet : (result : Result (Unit {0}) Fault) (u v w : Option (List ℕ)) (a b c : Keeping D) (x : List AnySubmitted) (ns : List Aside) → Says view answers marks u v a b x ns
@@ -453,21 +481,15 @@ module _ {D : Type 0} (view : D → DiskView) (answers : Answers) (marks : Bool)
       subst (λ (l : List AnySubmitted). SaysBy view answers marks result u w a c l ns) (append-nil x)
       (subst (λ (l : List Aside). SaysBy view answers marks result u w a c (x ++ []) l) (append-nil ns) (then_by result u v w a b c x [] ns [] first rest))
 
-  -- and a command that was refused
-  pub then_refused : (result : Result (Unit {0}) Fault) (P : Fault → Type 0) (u v : Option (List ℕ)) (command : Command) (a b c : Keeping D) (x y : List AnySubmitted) → IsErrAnd result P
-      → Says view answers marks u v a b x [] → Refuses view answers command b c → SaysBy view answers marks result u v a c y []
-  then_refused result P u v command a b c x y is first refused =
-      by_refusal result P u v a c y [] is (λ f holds. inr (then_some u v v a b c x [] [] first (refused_some v command b c refused)))
-
-  -- OUTPUTS THAT ARE HELD BACK: the lines of the replies are what was written, and what is held
+  -- OUTPUTS THAT ARE HELD BACK: the lines of the replies are what was written, and what is held; and none of them is the keeper's refusal
   pub record Holding (before after : Option (List ℕ)) (old new : Keeping D) (held : List ℕ) : Type 0 where
-    pub some : SaysSome view answers marks before after old new []
+    pub some : SaysSome view answers marks Memory before after old new []
     pub held_is : some.unsaid ≡ held
     pub none : submitted_by (commands_in some.sayings) (replies_in some.sayings) ≡ []
 
   pub holding_nothing : (w : Option (List ℕ)) (k : Keeping D) (held : List ℕ) → held ≡ [] → Holding w w k k held
   holding_nothing w k held is = record {
-    some = record { sayings = []; driven = refl; later = []; noted = refl; text = []; unsaid = []; lines = refl; said = Appends-nil w };
+    some = record { sayings = []; driven = refl; later = []; noted = refl; text = []; unsaid = []; lines = refl; said = Appends-nil w; cause = of_memory [] };
     held_is = sym is;
     none = refl;
   }
@@ -491,6 +513,7 @@ module _ {D : Type 0} (view : D → DiskView) (answers : Answers) (marks : Bool)
               ∙ append_assoc s.text s.unsaid (lines_of marks one)
               ∙ ap (λ (l : List ℕ). s.text ++ l) (ap (λ (l : List ℕ). l ++ lines_of marks one) so_far.held_is ∙ ap (λ (l : List ℕ). held ++ l) (append-nil (line_of marks 0 (Out o))) ∙ sym is);
           said = s.said;
+          cause = of_memory (replies_in (s.sayings ++ one));
         };
         held_is = refl;
         none = submitted-append s.sayings one ∙ append-nil (submitted_by (commands_in s.sayings) (replies_in s.sayings)) ∙ so_far.none;
@@ -500,41 +523,6 @@ module _ {D : Type 0} (view : D → DiskView) (answers : Answers) (marks : Bool)
   pub none_out : (o : Option EpochOut) → ((out : EpochOut) → o ≡ Some out → ⊥) → line_of marks 0 (Out o) ≡ []
   none_out None not_some = refl
   none_out (Some out) not_some = absurd (not_some out refl)
-
-  -- of a refusal
-  quiet_refused : (r : Reply) → is_refused r ≡ true → line_of marks 0 r ≡ []
-  quiet_refused (Refused e b) is = refl
-  quiet_refused (RefusedAll e xs) is = refl
-  quiet_refused (Submitted n) is = absurd (let no : false ≡ true = is in cc)
-  quiet_refused (SubmittedAs n) is = absurd (let no : false ≡ true = is in cc)
-  quiet_refused (SubmittedAll n m) is = absurd (let no : false ≡ true = is in cc)
-  quiet_refused (Released n) is = absurd (let no : false ≡ true = is in cc)
-  quiet_refused Settled is = absurd (let no : false ≡ true = is in cc)
-  quiet_refused (Collected n) is = absurd (let no : false ≡ true = is in cc)
-  quiet_refused (Out o) is = absurd (let no : false ≡ true = is in cc)
-  quiet_refused (CutTaken n) is = absurd (let no : false ≡ true = is in cc)
-  quiet_refused (Written w) is = absurd (let no : false ≡ true = is in cc)
-  quiet_refused (Answered m ys) is = absurd (let no : false ≡ true = is in cc)
-  quiet_refused Closed is = absurd (let no : false ≡ true = is in cc)
-
-  -- and a command that is refused
-  pub holding_refused : (u v : Option (List ℕ)) (a b c : Keeping D) (held : List ℕ) → Holding u v a b held → Refuses view answers NextOut b c
-      → SaysSome view answers marks u v a c []
-  holding_refused u v a b c held so_far (inl is) = subst (λ (k : Keeping D). SaysSome view answers marks u v a k []) (sym is) so_far.some
-  holding_refused u v a b c held so_far (inr told) =
-      let s = so_far.some in
-      let one : List Saying = replied NextOut told.0 ∷ [] in
-      let nothing : lines_of marks one ≡ [] = ap (λ (l : List ℕ). l ++ []) (quiet_refused told.0 told.1) in
-      record {
-        sayings = s.sayings ++ one;
-        driven = told-append s.sayings one a b c s.driven told.2;
-        later = s.later;
-        noted = ap (λ (l : List Aside). l ++ s.later) (notes-append s.sayings one ∙ append-nil (notes_among s.sayings)) ∙ s.noted;
-        text = s.text;
-        unsaid = s.unsaid;
-        lines = lines-append s.sayings one ∙ (ap (λ (l : List ℕ). lines_of marks s.sayings ++ l) nothing ∙ (append-nil (lines_of marks s.sayings) ∙ s.lines));
-        said = s.said;
-      }
 
   -- what is held is written
   pub holding_written : (u v w : Option (List ℕ)) (a b : Keeping D) (held after : List ℕ) → Holding u v a b held → Appends v w held → after ≡ [] → Holding u w a b after
@@ -550,6 +538,7 @@ module _ {D : Type 0} (view : D → DiskView) (answers : Answers) (marks : Bool)
           unsaid = [];
           lines = s.lines ∙ sym (append-nil (s.text ++ s.unsaid));
           said = Appends-trans u v w s.text s.unsaid s.said (subst (λ (l : List ℕ). Appends v w l) (sym so_far.held_is) written);
+          cause = s.cause;
         };
         held_is = sym none;
         none = so_far.none;
@@ -603,17 +592,18 @@ abbrev pub EndedAs : Result (Unit {0}) Fault → Result (Unit {0}) PoolError →
 EndedAs obeyed worked f = (obeyed ≡ Err f) ⊎ (((obeyed ≡ Ok tt) ⊎ ((e : ℕ) × (obeyed ≡ Err (Keeper (error.NotPassed e))))) × ((r : PoolError) × (worked ≡ Err r) × (f ≡ pool_fault r)))
 
 module _ {D : Type 0} (view : D → DiskView) (answers : Answers) (marks : Bool) (u v : Option (List ℕ)) (a b : Keeping D) (x : List AnySubmitted) (ns : List Aside) where
-  some_by : (obeyed : Result (Unit {0}) Fault) → SaysBy view answers marks obeyed u v a b x ns → (obeyed ≡ Ok tt) ⊎ ((e : ℕ) × (obeyed ≡ Err (Keeper (error.NotPassed e))))
-      → SaysSome view answers marks u v a b ns
-  some_by (Ok done) says why = some_of_all view answers marks u v a b x ns says
-  some_by (Err f) says why =
-      ⊎_elim (λ output. ⊎_elim (λ not_so. absurd (let is = not_so in cc)) (λ unpassed. absurd (let is = unpassed.1 in let other = output.0 in cc)) why) (λ some. some) says
+  some_by : (f : Fault) (obeyed : Result (Unit {0}) Fault) → ((rs : List Reply) → IsOfReplies f rs) → SaysBy view answers marks obeyed u v a b x ns → (obeyed ≡ Ok tt) ⊎ ((e : ℕ) × (obeyed ≡ Err (Keeper (error.NotPassed e))))
+      → SaysSome view answers marks f u v a b ns
+  some_by f (Ok done) cause says why = some_of_all view answers marks f u v a b x ns cause says
+  some_by f (Err e) cause says why =
+      ⊎_elim (λ output. ⊎_elim (λ not_so. absurd (let is = not_so in cc)) (λ unpassed. absurd (let is = unpassed.1 in let other = output.0 in cc)) why) (λ some. some_for view answers marks f e u v a b ns cause some) says
 
   pub ended_says : (obeyed result : Result (Unit {0}) Fault) (worked : Result (Unit {0}) PoolError) → OnOk result ((obeyed ≡ Ok tt) × (worked ≡ Ok tt)) → IfErr result (EndedAs obeyed worked)
       → SaysBy view answers marks obeyed u v a b x ns → SaysBy view answers marks result u v a b x ns
   ended_says obeyed (Ok done) worked ok err says = subst (λ (r : Result (Unit {0}) Fault). SaysBy view answers marks r u v a b x ns) ok.0 says
   ended_says obeyed (Err f) worked ok err says =
-      ⊎_elim (λ same. subst (λ (r : Result (Unit {0}) Fault). SaysBy view answers marks r u v a b x ns) same says) (λ other. inr (some_by obeyed says other.0)) err
+      ⊎_elim (λ same. subst (λ (r : Result (Unit {0}) Fault). SaysBy view answers marks r u v a b x ns) same says)
+      (λ other. inr (some_by f obeyed (subst (λ (d : Fault). (rs : List Reply) → IsOfReplies d rs) (sym other.1.2) (of_pool_error other.1.0)) says other.0)) err
 
 -- a feed of a disk
 module _ {D : Type 0} (view : D → DiskView) (answers : Answers) (marks : Bool) where

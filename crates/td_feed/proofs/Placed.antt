@@ -14,13 +14,10 @@ use Rattle.td_calls.specs.Answers.{Answers}
 use Rattle.td_store.specs.standing.Standing.{last_epoch, last_request}
 use Rattle.td_keeper.specs.Keeping.{Keeping}
 use Rattle.td_feed.specs.Carried.{new_to, Carries}
+use Rattle.td_feed.specs.Served.{script_at}
 use Rattle.td_feed.proofs.Held.{seen_on}
 
--- a script at the disk of a keeper
-abbrev pub script_at : {D S : Type 0} → (ℕ → ℕ → S → Option Script) → Keeping D → S → Option Script
-script_at script k orders = script (last_epoch k.standing) (last_request k.standing) orders
-
--- which is the same at one that has gone on with nothing
+-- a script is the same at a keeper that has gone on with nothing
 pub script_same : {D S : Type 0} (script : ℕ → ℕ → S → Option Script) (answers : Answers) (old new : Keeping D) (orders : S) → Carries answers old new [] → script_at script old orders ≡ script_at script new orders
 script_same script answers old new orders carries =
     let told : last_epoch old.standing ≡ last_epoch new.standing = omega (arith, carries.told) in

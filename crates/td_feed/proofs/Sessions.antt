@@ -1,6 +1,6 @@
 -- How calls of a feed come together, one after another.
 use Rattle.std.proofs.Common.{◌≡◌, ◌⊎◌, ⊎_elim, inl, inr, ℕ, Bool, true, false, List, [], ◌∷◌, refl, sym, ap, ◌∙◌, subst}
-use Rattle.std.specs.Prelude.{Option, Some, None, Result, Ok, Err, OnOk, IfErr, IfSome}
+use Rattle.std.specs.Prelude.{Option, Some, None, option_map, Result, Ok, Err, OnOk, IfErr, IfSome}
 use Rattle.std.specs.Result.{IsErrAnd}
 use Rattle.std.proofs.lemmas.Result.{on_ok_weaker, on_err_weaker}
 use Rattle.td_calls.specs.Answers.{Answers}
@@ -25,7 +25,7 @@ use Rattle.std.specs.Io.KnownBytes.{Appends}
 use Rattle.td_console.specs.declared.faults.Fault.TheVariants.{Keeper, Output, Memory}
 use Rattle.td_orders.specs.Noted.{note_line}
 use Rattle.td_feed.specs.Carried.{batch_in, new_to, Carries, Leaves}
-use Rattle.td_feed.specs.Said.{answer_text, full_line, Says, SaysBy, Refuses}
+use Rattle.td_feed.specs.Said.{answer_text, full_line, Says, SaysSome, SaysBy, IsOfReplies, Refuses}
 use Rattle.td_orders.specs.declared.note.Note.{Note}
 use Rattle.td_questions.specs.declared.question.Wanted.{Wanted as Of}
 use Rattle.td_orders.specs.Noted.{Aside, ComeOf, copied_in}
@@ -42,6 +42,9 @@ use Rattle.td_feed.proofs.Lines.{EndedAs, is_quiet, says_nothing, then_quiet, th
 -- what holds of the value, where it is known
 pub known : {A : Type 0} (P : A → Type 0) (o : Option A) (a : A) → o ≡ Some a → IfSome o P → P a
 known P o a is p = subst (λ (q : Option _). IfSome q P) is p
+
+pub mapped : {A B : Type 0} (P : B → Type 0) (f : A → B) (o : Option A) (a : A) → o ≡ Some a → IfSome (option_map f o) P → P (f a)
+mapped P f o a is p = known P (option_map f o) (f a) (ap (option_map f) is) p
 
 pub in_some_is : {A : Type 0} {P : A → Type 0} (o : Option A) → ((a : A) → o ≡ Some a → P a) → IfSome o P
 in_some_is (Some a) f = f a refl
@@ -180,13 +183,13 @@ module _ {D : Type 0} {view : D → DiskView} {answers : Answers} {marks : Bool}
   fed_quiet {a = a} {b = b} r carried said = record { carried = at_ok r carried; left = at_err r (leaves_none view answers a b [] carried); said = said }
 
   -- a command was refused
-  pub fed_refused : {w : Option (List ℕ)} {a b : Keeping D} {x : List Submitted} (P : Fault → Type 0) (r : Result (Unit {0}) Fault) (command : Command) → IsErrAnd r P → new_to a (batch_in command) ≡ x
-      → IsNotObeyed view answers command a b → Feeds view answers marks r w w a b x
-  fed_refused P (Ok d) command none is refused = absurd none
-  fed_refused {w = w} {a = a} {b = b} P (Err f) command holds is refused = record {
+  pub fed_refused : {w : Option (List ℕ)} {a b : Keeping D} {x : List Submitted} (e : Fault) (r : Result (Unit {0}) Fault) (command : Command) → IsErrAnd r (λ f. f ≡ e) → new_to a (batch_in command) ≡ x
+      → IsNotObeyed view answers e command a b → Feeds view answers marks r w w a b x
+  fed_refused e (Ok d) command none is refused = absurd none
+  fed_refused {w = w} {a = a} {b = b} e (Err f) command same is refused = record {
     carried = tt;
     left = subst (λ (l : List Submitted). Leaves view answers a b l) is refused.left;
-    said = inr (refused_some view answers marks w command a b refused.refused);
+    said = inr (subst (λ (d : Fault). SaysSome view answers marks d w w a b []) (sym same) (refused_some view answers marks e w command a b refused.refused));
   }
 
   -- a note was to be written
@@ -218,13 +221,13 @@ module _ {D : Type 0} {view : D → DiskView} {answers : Answers} {marks : Bool}
   }
 
   -- or it was not
-  pub fed_unanswered : {w : Option (List ℕ)} {a b : Keeping D} {ns : List Aside} (P : Fault → Type 0) (r : Result (Unit {0}) Fault) (command : Command) → IsErrAnd r P → Carries answers a b []
-      → Refuses view answers command a b → FeedsNoting view answers marks r w w a b [] ns
-  fed_unanswered P (Ok d) command none carried refused = absurd none
-  fed_unanswered {w = w} {a = a} {b = b} {ns = ns} P (Err f) command holds carried refused = record {
+  pub fed_unanswered : {w : Option (List ℕ)} {a b : Keeping D} {ns : List Aside} (e : Fault) (r : Result (Unit {0}) Fault) (command : Command) → IsErrAnd r (λ f. f ≡ e) → Carries answers a b []
+      → Refuses view answers e command a b → FeedsNoting view answers marks r w w a b [] ns
+  fed_unanswered e (Ok d) command none carried refused = absurd none
+  fed_unanswered {w = w} {a = a} {b = b} {ns = ns} e (Err f) command same carried refused = record {
     carried = tt;
     left = leaves_none view answers a b [] carried;
-    said = inr (unanswered view answers marks w command a b ns refused);
+    said = inr (subst (λ (d : Fault). SaysSome view answers marks d w w a b ns) (sym same) (unanswered view answers marks e w command a b ns refused));
   }
 
   -- it was to be written that the journal is full
@@ -237,11 +240,11 @@ module _ {D : Type 0} {view : D → DiskView} {answers : Answers} {marks : Bool}
   }
 
   -- nothing was done
-  pub unfed : {w : Option (List ℕ)} {k : Keeping D} {x : List Submitted} {ns : List Aside} (f : Fault) → k.broken ≡ false → FeedsNoting view answers marks (Err f) w w k k x ns
-  unfed {w = w} {k = k} {x = x} {ns = ns} f whole = record {
+  pub unfed : {w : Option (List ℕ)} {k : Keeping D} {x : List Submitted} {ns : List Aside} (f : Fault) → IsOfReplies f [] → k.broken ≡ false → FeedsNoting view answers marks (Err f) w w k k x ns
+  unfed {w = w} {k = k} {x = x} {ns = ns} f cause whole = record {
     carried = tt;
     left = leaves_none view answers k k x (unmoved answers k k refl refl whole);
-    said = inr (unsaid_none view answers marks w k ns);
+    said = inr (unsaid_none view answers marks f w k ns cause);
   }
 
   -- what is left at any answer
@@ -261,9 +264,9 @@ module _ {D E : Type 0} {view : D → DiskView} {answers : Answers} {marks : Boo
     copied = subst (λ (said : List (List ℕ × ℕ)). MakesCopies view new_view answers said kept kept a x) (sym none) (none_made view new_view answers kept a x);
   }
 
-  pub none_fed : {w : Option (List ℕ)} {kept : Option (List (Copied E))} {k : Keeping D} {s : Script} (f : Fault) → k.broken ≡ false
+  pub none_fed : {w : Option (List ℕ)} {kept : Option (List (Copied E))} {k : Keeping D} {s : Script} (f : Fault) → IsOfReplies f [] → k.broken ≡ false
       → FeedsScript view answers marks new_view (Err f) w w kept kept k k s
-  none_fed {s = s} f whole = record { sound = tt; fed = fed_uncopied (notes_in s.orders) (as_they_ask s.orders) (none_yet s.orders) (unfed f whole) }
+  none_fed {s = s} f cause whole = record { sound = tt; fed = fed_uncopied (notes_in s.orders) (as_they_ask s.orders) (none_yet s.orders) (unfed f cause whole) }
 
   -- and then nothing more
   pub copying_then : {d : Unit {0}} {r : Result (Unit {0}) Fault} {u v w : Option (List ℕ)} {had has : Option (List (Copied E))} {a b c : Keeping D} {x : List Submitted} {ns : List Aside}

@@ -67,9 +67,9 @@ pub ok_of : {E : Type 0} (result : Result Reply E) (reply : Reply) (P : Reply �
 ok_of (Ok r) reply P is holds = subst P (sym is.0) (holds is.1)
 ok_of (Err e) reply P is holds = tt
 
-pub err_of : {E : Type 0} (result : Result Reply E) (reply : Reply) (P : Type 0) (F : E → Type 0) → IfErr result (λ f. (is_refused reply ≡ true) × F f) → (is_refused reply ≡ true → P) → OnErr result P
+pub err_of : {E : Type 0} (result : Result Reply E) (reply : Reply) (P F : E → Type 0) → IfErr result (λ f. (is_refused reply ≡ true) × F f) → ((f : E) → is_refused reply ≡ true → F f → P f) → IfErr result P
 err_of (Ok r) reply P F is holds = tt
-err_of (Err e) reply P F is holds = holds is.0
+err_of (Err e) reply P F is holds = holds e is.0 is.1
 
 -- the law, as it is handed in: a command that does not write leaves a keeper's disk, and what it stands for
 abbrev pub Others-rest : {D : Type 0} → (D → DiskView) → Answers → Type 0

@@ -1,5 +1,5 @@
 -- Why a feed or a stream is refused.
-use Rattle.std.specs.Prelude.{◌≡◌, ◌⊎◌, ℕ, Bool, true, false, List, ◌∷◌, ◌++◌, length, Some, Result, Err}
+use Rattle.std.specs.Prelude.{◌≡◌, ◌⊎◌, ℕ, Bool, true, false, List, ◌∷◌, ◌++◌, length, Some, Result, Err, IfErr, IsErr}
 use Rattle.td_plan.specs.Lines.{Line as PlanLine}
 use Rattle.td_calls.specs.Answers.{Answers}
 use Rattle.td_disk.specs.Disk.{DiskView}
@@ -13,6 +13,7 @@ use Rattle.td_orders.specs.declared.at_once.Asked.{Asked}
 use Rattle.td_orders.specs.declared.at_once.Asked.TheVariants.{One}
 use Rattle.td_orders.specs.declared.order.Order.{Order}
 use Rattle.td_orders.specs.declared.order.Order.TheVariants.{Seen}
+use Rattle.td_orders.specs.Orders.{orders_of}
 use Rattle.td_orders.specs.Lines.{has_overlong}
 use Rattle.td_orders.specs.Placed.{placed}
 use Rattle.td_orders.specs.Scripts.{Script}
@@ -57,6 +58,13 @@ abbrev pub IsOfStream : {W : Type 0} → Bool → Script → (W → ℕ → Type
 IsOfStream overlong script has (Line n fault) = IsOfScript overlong script n fault
 IsOfStream overlong script has Output = AlwaysHasRoom has → ⊥
 IsOfStream overlong script has f = Unit {0}
+
+-- A FEED IS REFUSED FOR A CAUSE: an input with a fault answers an error, with nothing written. A line's fault that is told is the input's first, and
+-- a writer does not fail that has room for any text at any time
+pub record RefusesFor {W : Type 0} (has : W → ℕ → Type 0) (plan : List PlanLine) (input : List ℕ) (result : Result (Unit {0}) Fault) (before after : W) : Type 0 where
+  pub fault : IfErr (orders_of plan input) (λ _. IsErr result × (after ≡ before))
+  pub line : (n : ℕ) (fault : LineFault) → result ≡ Err (Line n fault) → orders_of plan input ≡ Err (Line n fault)
+  pub output : result ≡ Err Output → AlwaysHasRoom has → ⊥
 
 module _ {D W : Type 0} (view : D → DiskView) (answers : Answers) (has : W → ℕ → Type 0) where
   -- A STREAM OF A DISK IS REFUSED FOR A CAUSE, where a line has a fault: that is the first of its input, where epochs have places or not; or a

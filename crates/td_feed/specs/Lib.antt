@@ -8,3 +8,4 @@ pub mod Session
 pub mod Working
 pub mod Groups
 pub mod Caused
+pub mod Served

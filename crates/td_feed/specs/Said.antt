@@ -10,7 +10,8 @@ use Rattle.td_disk.specs.Disk.{DiskView, Rises, IsDurable}
 use Rattle.td_gate.specs.CrashSafe.{CrashSafe, Unchanged}
 use Rattle.td_journal.specs.declared.submitted.Submitted.{Submitted as AnySubmitted}
 use Rattle.td_watch.specs.View.{View}
-use Rattle.td_store.specs.declared.standing.error.KeeperError.TheVariants.{Device}
+use Rattle.td_store.specs.declared.standing.error.KeeperError.{KeeperError}
+use Rattle.td_store.specs.declared.standing.error.KeeperError.TheVariants.{Device, TooManyRecords, Epochs, Foreign}
 use Rattle.td_store.specs.standing.Read.{Refused as Refusal}
 use Rattle.td_store.specs.standing.Told.{Told}
 use Rattle.td_store.specs.standing.Tells.{Keeps}
@@ -152,6 +153,26 @@ fault_in (Refused error back) = keeper_fault error
 fault_in (RefusedAll (Keeper error) back) = keeper_fault error
 fault_in _ = Memory
 
+-- a reply is this refusal
+abbrev pub IsRefusal : KeeperError → Reply → Type 0
+IsRefusal error (Refused e back) = e ≡ error
+IsRefusal error (RefusedAll (Keeper e) back) = e ≡ error
+IsRefusal error _ = ⊥
+
+-- among some replies
+abbrev pub IsAmong : KeeperError → List Reply → Type 0
+IsAmong error [] = ⊥
+IsAmong error (reply ∷ replies) = IsRefusal error reply ⊎ IsAmong error replies
+
+-- a refusal in a keeper's words that may be none of its replies: of a line that is one record too many, of a checkpoint that is the last
+-- there can be, and of a worker that finds another's task
+abbrev pub IsNoReply : KeeperError → Type 0
+IsNoReply error = (error ≡ TooManyRecords) ⊎ ((error ≡ Epochs) ⊎ (error ≡ Foreign))
+
+-- A KEEPER'S REFUSAL THAT IS TOLD is one of its replies
+abbrev pub IsOfReplies : Fault → List Reply → Type 0
+IsOfReplies fault replies = (error : KeeperError) → fault ≡ AsKeeper error → IsNoReply error ⊎ IsAmong error replies
+
 -- WHAT AN INPUT ASKS FOR of a disk with this last epoch and this greatest request number: epochs; notes, answers and copies; and of a stream that refuses
 -- epochs how many records one may have
 pub record Wanted : Type 0 where
@@ -173,8 +194,9 @@ module _ {D : Type 0} (view : D → DiskView) (answers : Answers) (marks : Bool)
     pub noted : notes_among sayings ≡ notes
     pub said : Appends before after (lines_of marks sayings)
 
-  -- or a beginning of them: no line is written before its reply, and the notes are the first of these
-  pub record SaysSome (before after : Option (List ℕ)) (old new : Keeping D) (notes : List Aside) : Type 0 where
+  -- or a beginning of them: no line is written before its reply, and the notes are the first of these; and where a keeper's refusal ended it,
+  -- that is one of the replies
+  pub record SaysSome (fault : Fault) (before after : Option (List ℕ)) (old new : Keeping D) (notes : List Aside) : Type 0 where
     pub sayings : List Saying
     pub driven : Driven view answers (commands_in sayings) (replies_in sayings) old new
     pub later : List Aside
@@ -183,6 +205,7 @@ module _ {D : Type 0} (view : D → DiskView) (answers : Answers) (marks : Bool)
     pub unsaid : List ℕ
     pub lines : lines_of marks sayings ≡ text ++ unsaid
     pub said : Appends before after text
+    pub cause : IsOfReplies fault (replies_in sayings)
 
   -- or nothing is known of the writer, which failed
   pub record SaysUnheard (old new : Keeping D) : Type 0 where
@@ -193,7 +216,7 @@ module _ {D : Type 0} (view : D → DiskView) (answers : Answers) (marks : Bool)
   -- all of them after Ok, and a beginning at a refusal
   abbrev pub SaysBy : Result (Unit {0}) Fault → Option (List ℕ) → Option (List ℕ) → Keeping D → Keeping D → List AnySubmitted → List Aside → Type 0
   SaysBy (Ok done) before after old new x notes = Says before after old new x notes
-  SaysBy (Err fault) before after old new x notes = ((fault ≡ Output) × SaysUnheard old new) ⊎ SaysSome before after old new notes
+  SaysBy (Err fault) before after old new x notes = ((fault ≡ Output) × SaysUnheard old new) ⊎ SaysSome fault before after old new notes
 
   -- A FEED OF A DISK: its keeper is what the disk tells, perhaps with a watch attached, and what was written are the lines of what
   -- that keeper replied; it was told what submits those of these that are new to it; and the disk that is left holds what the keeper
@@ -239,9 +262,12 @@ module _ {D : Type 0} (view : D → DiskView) (answers : Answers) (marks : Bool)
   copies_said (Err fault) plan alone disk left before after wanted (inr from) = copied_in from.notes
 
 module _ {D : Type 0} (view : D → DiskView) (answers : Answers) where
-  -- ONE COMMAND that was refused: by the keeper, or before it was told
-  abbrev pub Refuses : Command → Keeping D → Keeping D → Type 0
-  Refuses command old new = (new ≡ old) ⊎ ((reply : Reply) × (is_refused reply ≡ true) × Driven view answers (command ∷ []) (reply ∷ []) old new)
+  -- ONE COMMAND that the keeper refused, with this fault
+  pub record Refuses (fault : Fault) (command : Command) (old new : Keeping D) : Type 0 where
+    pub reply : Reply
+    pub refused : is_refused reply ≡ true
+    pub fault_is : fault ≡ fault_in reply
+    pub driven : Driven view answers (command ∷ []) (reply ∷ []) old new
 
 -- AN IMAGE TELLS EACH EPOCH that some replies acknowledge
 pub record TellsAcknowledged (plan : List PlanLine) (replies : List Reply) (image : List ℕ) : Type 0 where

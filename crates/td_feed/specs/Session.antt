@@ -21,6 +21,8 @@ use Rattle.td_orders.specs.Orders.{submissions, notes_in, new_after}
 use Rattle.td_orders.specs.Scripts.{Script, script_of}
 use Rattle.td_orders.specs.Placed.{placed}
 use Rattle.td_feed.specs.Fed.{EachTellsHistory, EachTellsSome}
+use Rattle.td_feed.specs.declared.under_way.Pace.{Pace}
+use Rattle.td_feed.specs.declared.under_way.Pace.TheVariants.{Live}
 use Rattle.td_feed.specs.Held.{TellsSeen, first_seen, seen_after}
 use Rattle.td_feed.specs.Carried.{batch_in, new_to, is_refused, Carries, Leaves}
 use Rattle.td_feed.specs.Copied.{Copied, with_copies, labels, IsCopyOf, MakesCopies}
@@ -43,6 +45,14 @@ wanted_by refuse limit script = record {
 abbrev pub script_by : StreamOptions → ℕ → List PlanLine → List ℕ → Script
 script_by how records plan input = script_of how.placing how.hold how.questions how.copies (limit_of how.refuse records) plan input
 
+-- that script at the disk of a keeper
+abbrev pub asked_at : {D : Type 0} → StreamOptions → List PlanLine → Keeping D → List ℕ → Script
+asked_at how plan k input = placed how.refuse (last_epoch k.standing) (last_request k.standing) (script_by how k.head.shape.m plan input)
+
+-- at which pace a stream goes
+abbrev pub pace_of : StreamOptions → Pace
+pace_of how = Live how.cut_every how.most how.hold
+
 -- and what it asks for
 abbrev pub wanted_of : StreamOptions → ℕ → List PlanLine → List ℕ → Wanted
 wanted_of how records plan input = wanted_by how.refuse (limit_of how.refuse records) (script_by how records plan input)
@@ -60,8 +70,8 @@ module _ {D : Type 0} (view : D → DiskView) (answers : Answers) where
     pub carried : Carries answers old new (submitted_in command reply)
 
   -- or it was refused
-  pub record IsNotObeyed (command : Command) (old new : Keeping D) : Type 0 where
-    pub refused : Refuses view answers command old new
+  pub record IsNotObeyed (fault : Fault) (command : Command) (old new : Keeping D) : Type 0 where
+    pub refused : Refuses view answers fault command old new
     pub left : Leaves view answers old new (new_to old (batch_in command))
 
 module _ {D : Type 0} (view : D → DiskView) (answers : Answers) (marks : Bool) where

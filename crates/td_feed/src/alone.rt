@@ -2,18 +2,16 @@
 //!
 //! It reads no line while tasks run, so a second thread would only wait in turn. A feed starts its workers in threads whatever
 //! their number.
-ghost use Rattle.std.specs.Prelude.{◌≡◌, false, None, IfErr, IfSome, OnOk};
+ghost use Rattle.std.specs.Prelude.{◌≡◌, None, OnOk};
 ghost use Rattle.td_plan.specs.Blocks.{vertices};
 ghost use Rattle.td_calls.specs.Fits.{first_lack};
-ghost use Rattle.td_store.specs.standing.Standing.{last_epoch, last_request};
-ghost use Rattle.td_feed.specs.Caused.{IsOfStream};
-ghost use Rattle.td_feed.specs.Held.{KeepsTo, TellsSeen, seen_at, then_seen};
 ghost use Rattle.td_feed.specs.Said.{IsAllOut};
-ghost use Rattle.td_feed.specs.Session.{KeepsDisk, FeedsScript};
+ghost use Rattle.td_feed.specs.Served.{Serves, script_at};
 
+use crate::feeder::{Feeder, Served};
 use crate::host::Host;
 use crate::in_turn::{ended_as, obey_each};
-use crate::under_way::{Feeding, is_at_last_number};
+use crate::under_way::is_at_last_number;
 use crate::voice::Voice;
 use std::alloc::Global;
 use std::sync::Wait;
@@ -21,7 +19,7 @@ use td_calls::{Closures, Law};
 use td_console::Fault;
 use td_core::HallError;
 use td_disk::Disk;
-use td_keeper::{Engine, Keeper};
+use td_keeper::Engine;
 use td_orders::Asking;
 use td_pool::PoolError;
 use td_store::standing::KeeperError;
@@ -37,46 +35,50 @@ pub(crate) fn obey_alone<
     L: Law,
     C: Closures<L>,
     R: Wait,
->(
-    rt: &R,
-    alloc: Global,
-    keeper: Keeper<D, L>,
-    feeding: Feeding,
-    orders: S,
-    writer: &mut W,
-    host: &mut H,
-    calls: &C,
-) -> (Keeper<D, L>, Result<(), Fault>)
-    requires whole { keeper.broken ≡ false }
-    requires fits { first_lack (C.has_map calls.now) (C.has_group calls.now) (C.has_fold calls.now) (vertices keeper.plan) ≡ None }
-    requires collected { keeper.collected ≡ keeper.base }
-    ensures disk { KeepsDisk D.view result.1 keeper.device result.0.device }
-    ensures fed { IfSome (S.script (last_epoch keeper.standing) (last_request keeper.standing) orders) (λ script. FeedsScript D.view L.answers W.marks H.New.view result.1 (W.contents writer.old) (W.contents writer.new) (H.copies host.old) (H.copies host.new) keeper result.0 script) }
-    ensures all_out { OnOk result.1 (IsAllOut result.0) }
-    ensures held { IfSome (S.script (last_epoch keeper.standing) (last_request keeper.standing) orders) (λ script. KeepsTo (then_seen (seen_at feeding.pace keeper.standing.epoch) script.orders) keeper result.0) }
-    ensures seen { IfSome (S.script (last_epoch keeper.standing) (last_request keeper.standing) orders) (λ script. TellsSeen result.1 (seen_at feeding.pace keeper.standing.epoch) script.orders (H.seen host.old) (H.seen host.new)) }
-    ensures fault { IfSome (S.script (last_epoch keeper.standing) (last_request keeper.standing) orders) (λ script. IfErr result.1 (IsOfStream (S.overlong orders) script W.HasRoom)) }
+>(rt: &R, alloc: Global, feeder: Feeder<D, L, S, W, H>, calls: &C) -> Served<D, L, W, H>
+    requires fits { first_lack (C.has_map calls.now) (C.has_group calls.now) (C.has_fold calls.now) (vertices feeder.keeper.plan) ≡ None }
+    requires collected { feeder.keeper.collected ≡ feeder.keeper.base }
+    ensures served { Serves D.view L.answers W.marks W.contents W.HasRoom H.New.view H.copies H.seen feeder.pace (S.overlong feeder.orders)
+        (script_at S.script feeder.keeper feeder.orders) result.ended feeder.keeper result.keeper feeder.writer result.writer feeder.host result.host }
+    ensures all_out { OnOk result.ended (IsAllOut result.keeper) }
 {
-    if is_at_last_number(&keeper) {
-        return (keeper, Err(Fault::Keeper(KeeperError::Epochs)));
+    if is_at_last_number(&feeder.keeper) {
+        return feeder.refused(Fault::Keeper(KeeperError::Epochs));
     }
-    let mut engine = match Engine::open(alloc, keeper, calls, feeding.pace.tasks_of_an_epoch()) {
+    let Feeder {
+        keeper,
+        pace,
+        mut orders,
+        mut writer,
+        mut host,
+    } = feeder;
+    let mut engine = match Engine::open(alloc, keeper, calls, pace.tasks_of_an_epoch()) {
         Ok(engine) => engine,
-        Err((_memory, keeper)) => return (keeper, Err(Fault::Memory)),
+        Err((_memory, keeper)) => {
+            return Served {
+                keeper,
+                writer,
+                host,
+                ended: Err(Fault::Memory),
+            };
+        }
     };
-    let mut orders = orders;
     let obeyed = obey_each(
         rt,
         alloc,
         &mut engine,
-        false,
-        feeding,
+        pace,
         &mut orders,
-        writer,
-        host,
+        &mut writer,
+        &mut host,
     );
     let (keeper, refusal) = engine.into_keeper();
-    (keeper, ended_as(obeyed, worked_until(refusal)))
+    Served {
+        keeper,
+        writer,
+        host,
+        ended: ended_as(obeyed, worked_until(refusal)),
+    }
 }
 
 /// How the tasks ended: as what one of them was refused, if it was.

@@ -1,18 +1,17 @@
 //! What is asked for, in turn.
-ghost use Rattle.std.specs.Prelude.{◌≡◌, ℕ, true, false, Ok, Err, IfOk, IfErr, IfSome, OnOk, ◌⊎◌};
+ghost use Rattle.std.specs.Prelude.{◌≡◌, ℕ, true, false, Ok, Err, IfOk, IfErr, OnOk, ◌⊎◌};
 ghost use Rattle.td_pool.specs.declared.error.PoolError.{PoolError as AnyPoolError};
 ghost use Rattle.td_store.specs.declared.standing.error.KeeperError.TheVariants.{NotPassed};
-ghost use Rattle.td_store.specs.standing.Standing.{last_epoch, last_request};
 ghost use Rattle.td_orders.specs.Scripts.{is_of_reader};
-ghost use Rattle.td_feed.specs.Caused.{IsOfAsked, IsOfStream};
+ghost use Rattle.td_feed.specs.Caused.{IsOfAsked};
 ghost use Rattle.td_feed.specs.Fed.{pool_fault};
-ghost use Rattle.td_feed.specs.Held.{KeepsTo, TellsSeen, seen_at, then_seen, seen_with, told_seen};
+ghost use Rattle.td_feed.specs.Held.{seen_with, told_seen};
 ghost use Rattle.td_feed.specs.Said.{IsAllOut};
-ghost use Rattle.td_feed.specs.Session.{KeepsDisk, FeedsScript};
+ghost use Rattle.td_feed.specs.Served.{Serves, script_at};
 
 use crate::host::Host;
 use crate::room::room_of;
-use crate::under_way::{Feeding, open_epochs, settle};
+use crate::under_way::{Feeding, Pace, open_epochs, settle};
 use crate::voice::Voice;
 use std::alloc::Global;
 use std::sync::Wait;
@@ -25,42 +24,29 @@ use td_orders::{Asked, Asking, Order};
 use td_pool::PoolError;
 use td_store::standing::KeeperError;
 
-/// Does what is asked for in turn, at the feeding's pace, and settles. Refusals: `Memory`, before anything else, where a worker was
-/// refused a thread; those of what asks for the orders, of the keeper and of the writer.
+/// Does what is asked for in turn, at a pace, and settles. Refusals: those of what asks for the orders, of the keeper and of the writer.
 pub(crate) fn obey_each<D: Disk, S: Asking, W: Voice, H: Host, L: Law, R: Wait, E: Obey<D, L, R>>(
     rt: &R,
     alloc: Global,
     engine: &mut E,
-    is_refused: bool,
-    mut feeding: Feeding,
+    pace: Pace,
     orders: &mut S,
     writer: &mut W,
     host: &mut H,
 ) -> Result<(), Fault>
     requires whole { (E.keeping engine.old).broken ≡ false }
-    ensures disk { KeepsDisk D.view result (E.keeping engine.old).device (E.keeping engine.new).device }
-    ensures fed { IfSome (S.script (last_epoch (E.keeping engine.old).standing) (last_request (E.keeping engine.old).standing) orders.old) (λ script. FeedsScript D.view L.answers W.marks H.New.view result (W.contents writer.old) (W.contents writer.new) (H.copies host.old) (H.copies host.new) (E.keeping engine.old) (E.keeping engine.new) script) }
+    ensures served { Serves D.view L.answers W.marks W.contents W.HasRoom H.New.view H.copies H.seen pace (S.overlong orders.old) (script_at S.script (E.keeping engine.old) orders.old)
+        result (E.keeping engine.old) (E.keeping engine.new) writer.old writer.new host.old host.new }
     ensures all_out { E.alone ≡ true → OnOk result (IsAllOut (E.keeping engine.new)) }
-
-    // Where outputs are held, nothing is kept beyond what the script says was seen.
-    ensures held { IfSome (S.script (last_epoch (E.keeping engine.old).standing) (last_request (E.keeping engine.old).standing) orders.old) (λ script. KeepsTo (then_seen (seen_at feeding.pace (E.keeping engine.old).standing.epoch) script.orders) (E.keeping engine.old) (E.keeping engine.new)) }
-
-    // A line's fault is the script's, and a writer with room does not fail.
-    ensures fault { IfSome (S.script (last_epoch (E.keeping engine.old).standing) (last_request (E.keeping engine.old).standing) orders.old) (λ script. IfErr result (IsOfStream (S.overlong orders.old) script W.HasRoom)) }
-
-    // And the host is told what was seen.
-    ensures seen { IfSome (S.script (last_epoch (E.keeping engine.old).standing) (last_request (E.keeping engine.old).standing) orders.old) (λ script. TellsSeen result (seen_at feeding.pace (E.keeping engine.old).standing.epoch) script.orders (H.seen host.old) (H.seen host.new)) }
 {
-    if is_refused {
-        return Err(Fault::Memory);
-    }
-    let mut seen = feeding.pace.first_seen(engine.keeper());
+    let mut feeding = Feeding::new(pace);
+    let mut seen = pace.first_seen(engine.keeper());
     tell_seen(host, seen);
     engine.allow(open_epochs(engine.keeper()));
     feeding.begin(rt, alloc, engine, seen, writer)?;
     for _asked in rt.forever() {
         let keeper = engine.keeper();
-        let most = feeding.pace.epochs_at_once(keeper);
+        let most = pace.epochs_at_once(keeper);
         let room = room_of(keeper, most);
         let Some(asked) = orders.next_asked(alloc, &room)? else {
             return settle(rt, alloc, engine, writer);

@@ -9,10 +9,9 @@
 //! For example a feed of `0 7 1` and `.` submits one record as the next epoch, and writes `ack 1` on a new disk.
 #![tactic(auto)]
 
-mod allowance;
 mod alone;
-mod at_pool;
 mod copying;
+mod feeder;
 mod feeding;
 mod host;
 mod in_turn;
@@ -27,6 +26,7 @@ mod upgrading;
 mod voice;
 mod workers;
 
+pub use feeder::Fed;
 pub use host::{Host, NoHost, Why};
 pub use session::Session;
 pub use streaming::StreamOptions;

@@ -1,16 +1,17 @@
 //! What feeds and streams have in common.
 //!
 //! A program makes a session for its plan and its closures, and feeds and streams one disk after another by it.
-ghost use Rattle.std.specs.Prelude.{◌≡◌, ◌≤◌, ◌==◌, [], ◌∷◌, false, None, OnOk, IfErr, IfSome, IsErr, Err};
+ghost use Rattle.std.specs.Prelude.{◌≡◌, ◌≤◌, ◌==◌, [], ◌∷◌, false, None, OnOk, IfSome, Err};
 ghost use Rattle.td_console.specs.Answer.{lack_fault};
 ghost use Rattle.td_orders.specs.Orders.{orders_of, submitted_by};
-ghost use Rattle.td_feed.specs.Caused.{IsRefusedFor};
+ghost use Rattle.td_feed.specs.Caused.{RefusesFor, IsRefusedFor};
 ghost use Rattle.td_feed.specs.Said.{epochs_alone};
 ghost use Rattle.td_feed.specs.Session.{KeepsDisk, FeedsDisk, StreamsCopying, SeesOrNot};
 ghost use Rattle.td_feed.specs.Working.{lack_of};
 
+use crate::feeder::Fed;
 use crate::feeding::feed;
-use crate::host::Host;
+use crate::host::{Host, NoHost};
 use crate::streaming::{StreamOptions, stream};
 use crate::voice::Voice;
 use std::alloc::Global;
@@ -83,23 +84,23 @@ impl<'a, L: Law + Send + Sync, C: Closures<L> + Sync, R: Threads + Wait + Sync> 
     /// Refusals: a missing closure, before anything else; what the disk refuses as it is recovered; with the whole input read, its
     /// first fault; and then what the keeper or the writer refuse, line by line. Where a worker refused, the others stop, and what it
     /// refused is answered in place of epochs that then do not pass. `Memory` also where a thread could not be made.
-    pub fn feed<D: Disk + Drop, I: Source, W: Voice>(
+    pub fn feed<D: Disk + Drop, I: Source, W: Voice + Drop>(
         &self,
         disk: D,
         reader: &mut I,
-        writer: &mut W,
-    ) -> (D, Result<(), Fault>)
-        ensures disk { KeepsDisk D.view result.1 disk result.0 }
+        writer: W,
+    ) -> Fed<D, W, NoHost>
+        ensures disk { KeepsDisk D.view result.ended disk result.disk }
 
         // A missing closure comes first: nothing was read or written.
         ensures lack { IfSome (lack_of C.has_map C.has_group C.has_fold self.now) (λ lack.
-            (result.1 ≡ Err (lack_fault lack)) × (result.0 ≡ disk) × (reader.new ≡ reader.old) × (writer.new ≡ writer.old)) }
-        ensures fits { OnOk result.1 (lack_of C.has_map C.has_group C.has_fold self.now ≡ None) }
+            (result.ended ≡ Err (lack_fault lack)) × (result.disk ≡ disk) × (reader.new ≡ reader.old) × (result.writer ≡ writer)) }
+        ensures fits { OnOk result.ended (lack_of C.has_map C.has_group C.has_fold self.now ≡ None) }
 
-        // An input with a fault answers an error, with nothing written to the writer; and what it asks for is fed.
-        ensures fault { IfSome (I.remaining reader.old) (λ input. IfErr (orders_of self.now.plan input) (λ _. IsErr result.1 × (writer.new ≡ writer.old))) }
+        // A fault is the input's first, with nothing written to the writer; a writer with room does not fail; and what the input asks for is fed.
+        ensures fault { IfSome (I.remaining reader.old) (λ input. RefusesFor W.HasRoom self.now.plan input result.ended writer result.writer) }
         ensures fed { lack_of C.has_map C.has_group C.has_fold self.now ≡ None → IfSome (I.remaining reader.old) (λ input.
-            FeedsDisk D.view L.answers W.marks result.1 self.now.plan false disk result.0 (W.contents writer.old) (W.contents writer.new) (epochs_alone (submitted_by (orders_of self.now.plan input)))) }
+            FeedsDisk D.view L.answers W.marks result.ended self.now.plan false disk result.disk (W.contents writer) (W.contents result.writer) (epochs_alone (submitted_by (orders_of self.now.plan input)))) }
     {
         feed(
             self.rt,
@@ -150,27 +151,27 @@ impl<'a, L: Law + Send + Sync, C: Closures<L> + Sync, R: Threads + Wait + Sync> 
     /// the reader, the keeper, a worker or the writer refuse, after all that was asked for before it; but want of memory, where epochs are
     /// read ahead, may come before these are put on the disk. What was written stays written. `Memory` also where a thread could not be
     /// made.
-    pub fn stream<D: Disk + Drop, I: Source + Drop, W: Voice, H: Host>(
+    pub fn stream<D: Disk + Drop, I: Source + Drop, W: Voice + Drop, H: Host + Drop>(
         &self,
         disk: D,
         options: StreamOptions,
         reader: I,
-        writer: &mut W,
+        writer: W,
         watch: Option<Writer>,
-        host: &mut H,
-    ) -> (D, Result<(), Fault>)
+        host: H,
+    ) -> Fed<D, W, H>
         requires unpublished { IfSome watch (λ w. w.words ≡ 0 ∷ 0 ∷ 0 ∷ []) }
-        ensures disk { KeepsDisk D.view result.1 disk result.0 }
+        ensures disk { KeepsDisk D.view result.ended disk result.disk }
 
         // A missing closure comes first: nothing was written.
-        ensures lack { IfSome (lack_of C.has_map C.has_group C.has_fold self.now) (λ lack. (result.1 ≡ Err (lack_fault lack)) × (result.0 ≡ disk) × (writer.new ≡ writer.old) × (host.new ≡ host.old)) }
+        ensures lack { IfSome (lack_of C.has_map C.has_group C.has_fold self.now) (λ lack. (result.ended ≡ Err (lack_fault lack)) × (result.disk ≡ disk) × (result.writer ≡ writer) × (result.host ≡ host)) }
 
         // A line's fault is the input's, and a writer with room does not fail.
-        ensures fault { IfSome (I.remaining reader) (λ input. IsRefusedFor D.view L.answers W.HasRoom options result.1 self.now.plan disk input) }
+        ensures fault { IfSome (I.remaining reader) (λ input. IsRefusedFor D.view L.answers W.HasRoom options result.ended self.now.plan disk input) }
 
         // What the input asks for is fed, by one worker until all outputs went out; and the host is told what was seen.
-        ensures fed { lack_of C.has_map C.has_group C.has_fold self.now ≡ None → IfSome (I.remaining reader) (λ input. StreamsCopying D.view L.answers W.marks H.New.view options result.1 self.now.plan (self.now.workers == 1) disk result.0 (W.contents writer.old) (W.contents writer.new) (H.copies host.old) (H.copies host.new) input) }
-        ensures seen { lack_of C.has_map C.has_group C.has_fold self.now ≡ None → IfSome (I.remaining reader) (λ input. SeesOrNot D.view options result.1 self.now.plan disk (H.seen host.old) (H.seen host.new) input) }
+        ensures fed { lack_of C.has_map C.has_group C.has_fold self.now ≡ None → IfSome (I.remaining reader) (λ input. StreamsCopying D.view L.answers W.marks H.New.view options result.ended self.now.plan (self.now.workers == 1) disk result.disk (W.contents writer) (W.contents result.writer) (H.copies host) (H.copies result.host) input) }
+        ensures seen { lack_of C.has_map C.has_group C.has_fold self.now ≡ None → IfSome (I.remaining reader) (λ input. SeesOrNot D.view options result.ended self.now.plan disk (H.seen host) (H.seen result.host) input) }
     {
         stream(
             self.rt,

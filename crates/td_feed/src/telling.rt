@@ -1,7 +1,7 @@
 //! What a feed tells its keeper beside the workers.
 //!
 //! It is one command at a time, since what a feed writes, and when it releases, depends on the reply before.
-ghost use Rattle.std.specs.Prelude.{◌≡◌, ◌⊎◌, [], ◌∷◌, true, false, IfOk, IfErr, OnOk, OnErr};
+ghost use Rattle.std.specs.Prelude.{◌≡◌, ◌⊎◌, [], ◌∷◌, true, false, IfOk, IfErr, OnOk};
 ghost use Rattle.td_keeper.specs.declared.command.Reply.{Reply as AnyReply};
 ghost use Rattle.td_keeper.specs.Driven.{Obeys, ComesOf};
 ghost use Rattle.td_feed.specs.Caused.{is_of_keeper, IsOfWriter};
@@ -33,7 +33,7 @@ pub(crate) fn tell<D: Disk, L: Law, R, E: Obey<D, L, R>>(
     ensures disk { KeepsDisk D.view result (E.keeping engine.old).device (E.keeping engine.new).device }
     ensures obeyed { IfOk result (λ reply. IsObeyed D.view L.answers command reply (E.keeping engine.old) (E.keeping engine.new)) }
     ensures own { E.alone ≡ true → IfOk result (λ reply. ComesOf command reply (E.keeping engine.old) (E.hall engine.old) (E.keeping engine.new) (E.hall engine.new)) }
-    ensures refused { OnErr result (IsNotObeyed D.view L.answers command (E.keeping engine.old) (E.keeping engine.new)) }
+    ensures refused { IfErr result (λ f. IsNotObeyed D.view L.answers f command (E.keeping engine.old) (E.keeping engine.new)) }
     ensures rests { is_resting command ≡ true → Carries L.answers (E.keeping engine.old) (E.keeping engine.new) [] }
     ensures base { MovesBase command (E.keeping engine.old) (E.keeping engine.new) }
     ensures fault { IfErr result (λ f. is_of_keeper f ≡ true) }

@@ -5,7 +5,7 @@ use Rattle.std.specs.declared.cmp.Ordering.{Ordering}
 use Rattle.std.specs.declared.cmp.Ordering.TheVariants.{Less, Equal, Greater}
 use Rattle.std.specs.List.{list_all}
 use Rattle.std.proofs.lemmas.List.Folds.{list_all-append}
-use Rattle.std.proofs.lemmas.List.Elements.{All-nil, All-cons, All-append, All-head, All-tail}
+use Rattle.std.proofs.lemmas.List.Elements.{All-nil, All-cons, All-append}
 use Rattle.td_stamp.specs.declared.values.Entry.{Entry}
 use Rattle.td_stamp.specs.Orders.{entry_cmp}
 use Rattle.td_stamp.specs.Bag.{bag_of, bag_insert}
@@ -23,7 +23,7 @@ use Rattle.td_orders.specs.declared.order.FeedLine.{FeedLine}
 use Rattle.td_orders.specs.declared.order.FeedLine.TheVariants.{Data, Request, At, Cut, Seen, Ask, Copy}
 use Rattle.td_orders.specs.declared.order.Order.{Order}
 use Rattle.td_orders.specs.declared.order.Order.TheVariants as order
-use Rattle.td_orders.specs.Orders.{Orders, IsAccepted, is_cut, request_of, seen_of, or_data, or_feed_line, has_no_number, is_between, order_for, with_cut, with_request, with_seen, with_line, and_then, ended, orders_from, orders_of, feed_line_of, held_line_of, notes_in}
+use Rattle.td_orders.specs.Orders.{Orders, IsAccepted, is_cut, request_of, seen_of, or_data, or_feed_line, has_no_number, is_between, order_for, with_cut, with_request, with_line, and_then, ended, orders_from, orders_of, feed_line_of, held_line_of}
 
 -- entries that all name inputs
 abbrev AreInputs : List PlanLine → List Entry → Type 0
@@ -61,12 +61,28 @@ submits : (plan : List PlanLine) (request : ℕ) (batch : List Entry) → AreInp
 submits plan zero batch inputs = inputs
 submits plan (suc q) batch inputs = inputs
 
--- a line of a feed has no place and asks nothing
+-- a line of a feed has no place, asks nothing, and says of no epoch that it was seen
 abbrev pub IsOfFeed : Option FeedLine → Type 0
 IsOfFeed (Some (At epoch)) = ⊥
+IsOfFeed (Some (Seen epoch)) = ⊥
 IsOfFeed (Some (Ask question)) = ⊥
 IsOfFeed (Some (Copy copy)) = ⊥
 IsOfFeed _ = Unit {0}
+
+-- one of a stream where outputs are held may say that
+abbrev pub IsOfHeld : Option FeedLine → Type 0
+IsOfHeld (Some (Seen epoch)) = Unit {0}
+IsOfHeld said = IsOfFeed said
+
+held_of : (said : Option FeedLine) → IsOfFeed said → IsOfHeld said
+held_of None of = tt
+held_of (Some (Data said)) of = tt
+held_of (Some (Request q)) of = tt
+held_of (Some (At epoch)) of = of
+held_of (Some Cut) of = tt
+held_of (Some (Seen epoch)) of = tt
+held_of (Some (Ask question)) of = of
+held_of (Some (Copy copy)) of = of
 
 pub of_feed : (line : List ℕ) → IsOfFeed (feed_line_of line)
 of_feed line = by (list_all is_ascii line) (is_cut (words line)) (request_of (words line))
@@ -82,14 +98,14 @@ of_feed line = by (list_all is_ascii line) (is_cut (words line)) (request_of (wo
     by true false None = of_data (data_line_of line)
 
 -- nor does one of a stream where epochs have no places and nothing is answered
-pub of_held : (hold : Bool) (line : List ℕ) → IsOfFeed (held_line_of hold line)
-of_held false line = of_feed line
+pub of_held : (hold : Bool) (line : List ℕ) → IsOfHeld (held_line_of hold line)
+of_held false line = held_of (feed_line_of line) (of_feed line)
 of_held true line = by (list_all is_ascii line) (seen_of (words line))
   where
-    by : (ascii : Bool) (epoch : Option ℕ) → IsOfFeed (if ascii then or_feed_line line epoch else None)
+    by : (ascii : Bool) (epoch : Option ℕ) → IsOfHeld (if ascii then or_feed_line line epoch else None)
     by false epoch = tt
     by true (Some epoch) = tt
-    by true None = of_feed line
+    by true None = held_of (feed_line_of line) (of_feed line)
 
 -- between lines of a feed
 abbrev begun : List Order → ℕ → List Entry → Orders
@@ -108,11 +124,7 @@ step plan n orders request current os next more (Some Cut) of h k e = by (is_bet
     by : (between : Bool) → and_then next (with_cut n (begun orders request current) between) ≡ Ok os → All (IsAccepted plan) os
     by true f = more (orders ++ order.Cut ∷ []) request current (pushed plan orders order.Cut h tt) k f
     by false f = cc
-step plan n orders request current os next more (Some (Seen epoch)) of h k e = by (is_between (begun orders request current)) e
-  where
-    by : (between : Bool) → and_then next (with_seen n epoch (begun orders request current) between) ≡ Ok os → All (IsAccepted plan) os
-    by true f = more (orders ++ order.Seen n epoch ∷ []) request current (pushed plan orders (order.Seen n epoch) h tt) k f
-    by false f = cc
+step plan n orders request current os next more (Some (Seen epoch)) of h k e = absurd of
 step plan n orders request current os next more (Some (Request q)) of h k e = by (has_no_number (begun orders request current)) e
   where
     by : (unnumbered : Bool) → and_then next (with_request n q (begun orders request current) unnumbered) ≡ Ok os → All (IsAccepted plan) os
@@ -143,18 +155,3 @@ from plan n orders request current (line ∷ lines) os h k e =
 -- THE ORDERS OF AN INPUT are accepted
 pub accepted : (plan : List PlanLine) (input : List ℕ) (os : List Order) → orders_of plan input ≡ Ok os → All (IsAccepted plan) os
 accepted plan input os e = from plan 1 [] 0 [] (text_lines input) os (All-nil (IsAccepted plan)) refl e
-
--- they have no notes and no questions
-unnoted : (plan : List PlanLine) (os : List Order) → All (IsAccepted plan) os → notes_in os ≡ []
-unnoted plan [] is = refl
-unnoted plan (order.Submit batch ∷ os) is = unnoted plan os (All-tail (IsAccepted plan) (order.Submit batch) os is)
-unnoted plan (order.SubmitAs request batch ∷ os) is = unnoted plan os (All-tail (IsAccepted plan) (order.SubmitAs request batch) os is)
-unnoted plan (order.SubmitAt place request batch ∷ os) is = absurd (All-head (IsAccepted plan) (order.SubmitAt place request batch) os is)
-unnoted plan (order.Cut ∷ os) is = unnoted plan os (All-tail (IsAccepted plan) order.Cut os is)
-unnoted plan (order.Seen line epoch ∷ os) is = unnoted plan os (All-tail (IsAccepted plan) (order.Seen line epoch) os is)
-unnoted plan (order.Answer vertex wanted ∷ os) is = absurd (All-head (IsAccepted plan) (order.Answer vertex wanted) os is)
-unnoted plan (order.Copy copy ∷ os) is = absurd (All-head (IsAccepted plan) (order.Copy copy) os is)
-unnoted plan (order.Say note ∷ os) is = absurd (All-head (IsAccepted plan) (order.Say note) os is)
-
-pub none_noted : (plan : List PlanLine) (input : List ℕ) (os : List Order) → orders_of plan input ≡ Ok os → notes_in os ≡ []
-none_noted plan input os e = unnoted plan os (accepted plan input os e)

@@ -24,7 +24,7 @@ use Rattle.td_orders.specs.declared.order.Order.TheVariants as order
 use Rattle.td_orders.specs.Orders.{Orders, no_orders, order_for, order_at, is_between, has_no_number, with_cut, with_request, with_seen, with_answer, with_question, with_line, held_line_of, or_stream_line, session_line_of, or_session_line, service_line_of, copy_of, with_copy}
 use Rattle.td_orders.specs.Scripts.{Reading, ReadSoFar, HaveNoPlace, note_of, judged, unless_over, is_over, with_said, onward, after_line, script_after, script_from, script_of}
 use Rattle.td_orders.specs.Placed.{placed}
-use Rattle.td_orders.proofs.Accepted.{IsOfFeed, of_held}
+use Rattle.td_orders.proofs.Accepted.{IsOfHeld, of_held}
 use Rattle.td_orders.proofs.Placed.{no_place-append, all_placed}
 
 -- a line names no place
@@ -32,7 +32,7 @@ abbrev NamesNoPlace : Option FeedLine → Type 0
 NamesNoPlace (Some (At epoch)) = ⊥
 NamesNoPlace _ = Unit {0}
 
-no_place_in : (said : Option FeedLine) → IsOfFeed said → NamesNoPlace said
+no_place_in : (said : Option FeedLine) → IsOfHeld said → NamesNoPlace said
 no_place_in None of = tt
 no_place_in (Some (Data said)) of = tt
 no_place_in (Some (Request q)) of = tt

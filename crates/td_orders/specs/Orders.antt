@@ -282,13 +282,13 @@ abbrev pub submitted_by : Result (List Order) Fault → List Submitted
 submitted_by (Ok orders) = submissions orders
 submitted_by (Err fault) = []
 
--- what an order of a feed submits names inputs of the plan; it has no places, no notes, no questions and no copies
+-- what an order of a feed submits names inputs of the plan; it has no places, no notes, no questions and no copies, and says of no epoch that it was seen
 abbrev pub IsAccepted : List PlanLine → Order → Type 0
 IsAccepted plan (order.Submit batch) = IsTrue (list_all (λ e. is_input_of plan e.input) batch)
 IsAccepted plan (order.SubmitAs request batch) = IsTrue (list_all (λ e. is_input_of plan e.input) batch)
 IsAccepted plan (order.SubmitAt place request batch) = ⊥
 IsAccepted plan order.Cut = Unit {0}
-IsAccepted plan (order.Seen line epoch) = Unit {0}
+IsAccepted plan (order.Seen line epoch) = ⊥
 IsAccepted plan (order.Answer vertex wanted) = ⊥
 IsAccepted plan (order.Copy copy) = ⊥
 IsAccepted plan (order.Say note) = ⊥

@@ -8,8 +8,10 @@
 //! run tasks.
 #![tactic(auto)]
 
+mod allowance;
 mod beside;
 mod workers;
 
+pub use allowance::Allowance;
 pub use beside::Beside;
-pub use workers::beside_workers;
+pub use workers::{beside_workers, beside_workers_within};

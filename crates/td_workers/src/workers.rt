@@ -7,6 +7,7 @@ ghost use Rattle.td_calls.specs.Fits.{lacking_code};
 ghost use Rattle.td_pool.specs.declared.error.PoolError.TheVariants.{Memory};
 ghost use Rattle.td_workers.specs.Ended.{MayRefuse};
 
+use crate::allowance::{Allowance, Within};
 use crate::beside::Beside;
 use std::alloc::{AllocError, Global};
 use std::marker::{Brand, PhantomData};
@@ -17,7 +18,7 @@ use std::thread;
 use std::thread::{Promise, PromisedHandle, Scope, Threads};
 use td_calls::{Closures, Law};
 use td_core::Hall;
-use td_pool::{Crew, NewCourse, OpenGate, Pool, PoolError, Seat};
+use td_pool::{Crew, NewCourse, Pool, PoolError, Seat};
 
 /// What is known of a worker's end: where it was refused, it is as these closures may have it refused.
 #[derive(Drop)]
@@ -55,9 +56,31 @@ pub fn beside_workers<
     ensures worked { let lacks = lacking_code (C.has_map calls.now) (C.has_group calls.now) (C.has_fold calls.now) in IfOk result (λ ended. IfErr ended.1 (MayRefuse lacks)) }
     ensures refused { IfErr result (λ e. (e.0 ≡ Memory) × (e.1 ≡ work)) }
 {
+    beside_workers_within(rt, alloc, hall, calls, &Allowance::new(u64::MAX), work)
+}
+
+/// As `beside_workers`, where the workers may run no more tasks than are allowed: at the first task beyond these the pool is stopped, so that an
+/// epoch that takes more does not pass. The task that was taken is run all the same.
+pub fn beside_workers_within<
+    L: Law + Send + Sync,
+    C: Closures<L> + Sync,
+    W: Beside<L, R> + Drop,
+    R: Threads + Wait + Sync,
+>(
+    rt: &R,
+    alloc: Global,
+    hall: Hall<L>,
+    calls: &C,
+    allowance: &Allowance,
+    work: W,
+) -> Result<(W::Answer, Result<(), PoolError>), (PoolError, W)>
+    ensures gives { IfOk result (λ ended. W.gives work ended.0) }
+    ensures worked { let lacks = lacking_code (C.has_map calls.now) (C.has_group calls.now) (C.has_fold calls.now) in IfOk result (λ ended. IfErr ended.1 (MayRefuse lacks)) }
+    ensures refused { IfErr result (λ e. (e.0 ≡ Memory) × (e.1 ≡ work)) }
+{
     let blank = blank_for(&hall);
     let course = NewCourse::new();
-    in_pool::<L, C, W, Brand, R>(rt, alloc, hall, blank, course, calls, work)
+    in_pool::<L, C, W, Brand, R>(rt, alloc, hall, blank, course, calls, allowance, work)
 }
 
 /// A name that no pool has yet, with a part for each shard of a hall.
@@ -81,6 +104,7 @@ fn in_pool<
     blank: Blank,
     course: NewCourse<L>,
     calls: &C,
+    allowance: &Allowance,
     work: W,
 ) -> Result<(W::Answer, Result<(), PoolError>), (PoolError, W)>
     requires name { blank.name ≡ K.name }
@@ -94,7 +118,7 @@ fn in_pool<
     match Pool::<K, L>::new(alloc, hall, blank) {
         Ok((mut pool, seats)) => {
             pool.keep_course(course);
-            in_scope(rt, alloc, &pool, seats, calls, work)
+            in_scope(rt, alloc, &pool, seats, calls, allowance, work)
         }
         Err((refusal, _hall)) => Err((refusal, work)),
     }
@@ -113,6 +137,7 @@ fn in_scope<
     pool: &Pool<K, L>,
     seats: Vec<Seat<K, L>>,
     calls: &C,
+    allowance: &Allowance,
     work: W,
 ) -> Result<(W::Answer, Result<(), PoolError>), (PoolError, W)>
     ensures gives { IfOk result (λ ended. W.gives work ended.0) }
@@ -127,7 +152,7 @@ fn in_scope<
             ensures worked { let lacks = lacking_code (C.has_map calls.entry.now) (C.has_group calls.entry.now) (C.has_fold calls.entry.now) in IfOk result (λ ended. IfErr ended.1 (MayRefuse lacks)) }
             ensures refused { IfErr result (λ e. (e.0 ≡ Memory) × (e.1 ≡ work)) }
         {
-            let Ok(workers) = start_all(scope, rt, alloc, pool, seats, calls) else {
+            let Ok(workers) = start_all(scope, rt, alloc, pool, seats, calls, allowance) else {
                 pool.stop(rt);
                 return Err((PoolError::Memory, work));
             };
@@ -153,6 +178,7 @@ fn start_all<
     pool: &'s Pool<K, L>,
     seats: Vec<Seat<K, L>>,
     calls: &'s C,
+    allowance: &'s Allowance,
 ) -> Result<Vec<Worker<L, C>>, AllocError>
     ensures { IfOk result (λ workers. All (λ worker. worker.promise.calls.value ≡ calls.now) workers.items) }
 {
@@ -162,7 +188,10 @@ fn start_all<
             calls: Snapshot::of(calls),
             law: PhantomData,
         };
-        workers.push(scope.spawn_with(ends, move || serve(rt, alloc, pool, seat, calls))?)?;
+        workers.push(scope.spawn_with(
+            ends,
+            move || serve(rt, alloc, pool, seat, calls, allowance),
+        )?)?;
     }
     Ok(workers)
 }
@@ -186,17 +215,19 @@ fn join_all<L: Law, C: Closures<L>, R: Threads>(
     ended
 }
 
-/// Works from a seat until the pool is stopped. Where the work ends by a refusal, it stops the pool.
+/// Works from a seat until the pool is stopped, as it is at the first task beyond the allowance. Where the work ends by a refusal, it stops the pool.
 fn serve<L: Law, C: Closures<L>, K: Crew, R: Wait>(
     rt: &R,
     alloc: Global,
     pool: &Pool<K, L>,
     mut seat: Seat<K, L>,
     calls: &C,
+    allowance: &Allowance,
 ) -> Result<(), PoolError>
     ensures { IfErr result (MayRefuse (lacking_code (C.has_map calls.now) (C.has_group calls.now) (C.has_fold calls.now))) }
 {
-    let worked = pool.work(rt, alloc, &mut seat, calls, &OpenGate);
+    let within = Within { allowance, pool };
+    let worked = pool.work(rt, alloc, &mut seat, calls, &within);
     if worked.is_err() {
         pool.stop(rt);
     }

@@ -1,5 +1,5 @@
 -- What a feed and a stream of a disk promise, by closures of a store.
-use Rattle.std.specs.Prelude.{◌≡◌, ℕ, Bool, false, List, Option, None, IfSome, IfErr, IsErr, OnOk, Result, Err}
+use Rattle.std.specs.Prelude.{◌≡◌, ℕ, Bool, false, List, Option, None, IfSome, OnOk, Result, Err}
 use Rattle.td_plan.specs.Lines.{Line as PlanLine}
 use Rattle.td_plan.specs.Blocks.{vertices}
 use Rattle.td_calls.specs.declared.error.CallsError.{CallsError}
@@ -11,7 +11,7 @@ use Rattle.td_orders.specs.Orders.{orders_of, submitted_by}
 use Rattle.td_feed.specs.Said.{epochs_alone}
 use Rattle.td_feed.specs.declared.streaming.StreamOptions.{StreamOptions}
 use Rattle.td_feed.specs.Copied.{Copied}
-use Rattle.td_feed.specs.Caused.{IsRefusedFor}
+use Rattle.td_feed.specs.Caused.{RefusesFor, IsRefusedFor}
 use Rattle.td_feed.specs.Session.{KeepsDisk, FeedsDisk, StreamsCopying, SeesOrNot}
 
 -- the first vertex of a plan whose closure a store lacks
@@ -19,15 +19,15 @@ abbrev pub lack_in : Stored → List PlanLine → Option CallsError
 lack_in stored plan = first_lack stored.has_map stored.has_group stored.has_fold (vertices plan)
 
 module _ (stored : Stored) {D S T : Type 0} (view : D → DiskView)
-    (remaining : S → Option (List ℕ)) (contents : T → Option (List ℕ)) (marks : Bool) (plan : List PlanLine) where
+    (remaining : S → Option (List ℕ)) (contents : T → Option (List ℕ)) (has : T → ℕ → Type 0) (marks : Bool) (plan : List PlanLine) where
   -- A FEED, of a disk before and after, of a reader and a writer before and after, and of its answer
   pub record FeedsBy (disk left : D) (reader read : S) (writer written : T) (result : Result (Unit {0}) Fault) : Type 0 where
     pub disk_is_kept : KeepsDisk view result disk left
     -- a closure that the store lacks comes first: nothing is read or written
     pub lack : IfSome (lack_in stored plan) (λ lack. (result ≡ Err (lack_fault lack)) × (left ≡ disk) × (read ≡ reader) × (written ≡ writer))
     pub fits : OnOk result (lack_in stored plan ≡ None)
-    -- an input with a fault answers an error, with nothing written to the writer; and what it asks for is fed
-    pub fault : IfSome (remaining reader) (λ input. IfErr (orders_of plan input) (λ _. IsErr result × (written ≡ writer)))
+    -- a fault is the input's first, with nothing written to the writer; a writer with room does not fail; and what the input asks for is fed
+    pub fault : IfSome (remaining reader) (λ input. RefusesFor has plan input result writer written)
     pub fed : lack_in stored plan ≡ None
         → IfSome (remaining reader) (λ input. FeedsDisk view stored.answers marks result plan false disk left
         (contents writer) (contents written) (epochs_alone (submitted_by (orders_of plan input))))

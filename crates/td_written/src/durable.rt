@@ -8,9 +8,9 @@ use std::marker::Brand;
 use std::sync::Wait;
 use std::thread::Threads;
 use td_calls::{Closures, Law};
-use td_console::{Fault, Source};
+use td_console::Source;
 use td_disk::Disk;
-use td_feed::{Host, Session, StreamOptions, Voice};
+use td_feed::{Fed, Host, NoHost, Session, StreamOptions, Voice};
 use td_formula::{Beside, BesideCalls, Closure, Formulas, WrittenCalls};
 use td_plan::Plan;
 use td_watch::Writer;
@@ -19,7 +19,7 @@ use td_watch::Writer;
 pub fn feed<
     D: Disk + Drop,
     I: Source,
-    W: Voice,
+    W: Voice + Drop,
     L: Law + Send + Sync,
     C: Closures<L> + Sync + Drop,
     R: Threads + Wait + Sync,
@@ -30,14 +30,14 @@ pub fn feed<
     plan: &Plan,
     workers: u8,
     reader: &mut I,
-    writer: &mut W,
+    writer: W,
     below: C,
     closures: Vec<Closure>,
-) -> (D, Result<(), Fault>)
+) -> Fed<D, W, NoHost>
     requires some { 1 ≤ workers }
     requires most { workers ≤ 16 }
     ensures { FeedsBy (stored_beside L.answers C.has_map C.has_group C.has_fold below closures.items) D.view I.remaining
-        W.contents W.marks plan.now disk result.0 reader.old reader.new writer.old writer.new result.1 }
+        W.contents W.HasRoom W.marks plan.now disk result.disk reader.old reader.new writer result.writer result.ended }
 {
     feed_by::<Brand, D, I, W, L, C, R>(
         rt, alloc, disk, plan, workers, reader, writer, below, closures,
@@ -48,8 +48,8 @@ pub fn feed<
 pub fn stream<
     D: Disk + Drop,
     I: Source + Drop,
-    W: Voice,
-    H: Host,
+    W: Voice + Drop,
+    H: Host + Drop,
     L: Law + Send + Sync,
     C: Closures<L> + Sync + Drop,
     R: Threads + Wait + Sync,
@@ -61,17 +61,17 @@ pub fn stream<
     workers: u8,
     options: StreamOptions,
     reader: I,
-    writer: &mut W,
+    writer: W,
     watch: Option<Writer>,
-    host: &mut H,
+    host: H,
     below: C,
     closures: Vec<Closure>,
-) -> (D, Result<(), Fault>)
+) -> Fed<D, W, H>
     requires some { 1 ≤ workers }
     requires most { workers ≤ 16 }
     requires unpublished { IfSome watch (λ w. w.words ≡ 0 ∷ 0 ∷ 0 ∷ []) }
     ensures { StreamsBy (stored_beside L.answers C.has_map C.has_group C.has_fold below closures.items) D.view I.remaining
-        W.contents W.HasRoom W.marks H.New.view H.copies H.seen plan.now options (workers == 1) disk result.0 reader writer.old writer.new host.old host.new result.1 }
+        W.contents W.HasRoom W.marks H.New.view H.copies H.seen plan.now options (workers == 1) disk result.disk reader writer result.writer host result.host result.ended }
 {
     stream_by::<Brand, D, I, W, H, L, C, R>(
         rt, alloc, disk, plan, workers, options, reader, writer, watch, host, below, closures,
@@ -83,7 +83,7 @@ fn feed_by<
     F: Formulas + Send + Sync,
     D: Disk + Drop,
     I: Source,
-    W: Voice,
+    W: Voice + Drop,
     L: Law + Send + Sync,
     C: Closures<L> + Sync + Drop,
     R: Threads + Wait + Sync,
@@ -94,15 +94,15 @@ fn feed_by<
     plan: &Plan,
     workers: u8,
     reader: &mut I,
-    writer: &mut W,
+    writer: W,
     below: C,
     closures: Vec<Closure>,
-) -> (D, Result<(), Fault>)
+) -> Fed<D, W, NoHost>
     requires stand { closures.items ≡ F.closures }
     requires some { 1 ≤ workers }
     requires most { workers ≤ 16 }
     ensures { FeedsBy (stored_beside L.answers C.has_map C.has_group C.has_fold below F.closures) D.view I.remaining
-        W.contents W.marks plan.now disk result.0 reader.old reader.new writer.old writer.new result.1 }
+        W.contents W.HasRoom W.marks plan.now disk result.disk reader.old reader.new writer result.writer result.ended }
 {
     let above = WrittenCalls::<F>::new(closures);
     let calls = BesideCalls { below, above };
@@ -116,8 +116,8 @@ fn stream_by<
     F: Formulas + Send + Sync,
     D: Disk + Drop,
     I: Source + Drop,
-    W: Voice,
-    H: Host,
+    W: Voice + Drop,
+    H: Host + Drop,
     L: Law + Send + Sync,
     C: Closures<L> + Sync + Drop,
     R: Threads + Wait + Sync,
@@ -129,18 +129,18 @@ fn stream_by<
     workers: u8,
     options: StreamOptions,
     reader: I,
-    writer: &mut W,
+    writer: W,
     watch: Option<Writer>,
-    host: &mut H,
+    host: H,
     below: C,
     closures: Vec<Closure>,
-) -> (D, Result<(), Fault>)
+) -> Fed<D, W, H>
     requires stand { closures.items ≡ F.closures }
     requires some { 1 ≤ workers }
     requires most { workers ≤ 16 }
     requires unpublished { IfSome watch (λ w. w.words ≡ 0 ∷ 0 ∷ 0 ∷ []) }
     ensures { StreamsBy (stored_beside L.answers C.has_map C.has_group C.has_fold below F.closures) D.view I.remaining
-        W.contents W.HasRoom W.marks H.New.view H.copies H.seen plan.now options (workers == 1) disk result.0 reader writer.old writer.new host.old host.new result.1 }
+        W.contents W.HasRoom W.marks H.New.view H.copies H.seen plan.now options (workers == 1) disk result.disk reader writer result.writer host result.host result.ended }
 {
     let above = WrittenCalls::<F>::new(closures);
     let calls = BesideCalls { below, above };

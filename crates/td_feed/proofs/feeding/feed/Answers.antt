@@ -19,6 +19,8 @@ use Rattle.td_feed.specs.Session.{KeepsDisk, Feeds}
 use Rattle.td_feed.proofs.Newness.{last_of_history}
 use Rattle.td_feed.proofs.Carrying.{in_some, ended_some, ended_all, none_more, still_each, found}
 use Rattle.td_feed.proofs.Counting.{as_err, fault_of, lack_no_device}
+use Rattle.td_feed.proofs.Causes.{is_other, other_keeper, other_lack}
+use Rattle.td_feed.proofs.Plain.{for_other}
 use Rattle.td_feed.proofs.Lines.{fed_says}
 use Rattle.td_report.specs.RefusedProofs.{refused}
 use Rattle.std.proofs.lemmas.Result.{on_ok_weaker}
@@ -63,9 +65,9 @@ returns-in-Err-recover-clause-fed g c = λ fits.
 pub returns-clause-disk : goal.returns-clause-disk
 returns-clause-disk g c =
     let view = g.D.Disk.view in
-    let r = c.obey-keeper.result.1 in
+    let r = c.obey-served.result.ended in
     subst (λ (d : g.row.D.Denot). KeepsDisk view r c.args.disk d) (sym c.into_disk.ensures.disk)
-    (disk_then (disk_recovered c.in-Ok.ensures.device) c.obey-keeper.ensures.disk)
+    (disk_then (disk_recovered c.in-Ok.ensures.device) c.obey-served.ensures.disk)
 
 pub returns-clause-fed : goal.returns-clause-fed
 returns-clause-fed g c = λ fits.
@@ -75,12 +77,12 @@ returns-clause-fed g c = λ fits.
     let plan = c.args.plan.now in
     let old = c.args.disk in
     let keeper : Keeping g.row.D.Denot = c.in-Ok.keeper in
-    let new = c.obey-keeper.result.0 in
-    let r = c.obey-keeper.result.1 in
-    let u = g.W.Sink.contents c.args.writer.now in
-    let v = g.W.Sink.contents c.obey-keeper.new.writer in
+    let new = c.obey-served.result.keeper in
+    let r = c.obey-served.result.ended in
+    let u = g.W.Sink.contents c.args.writer in
+    let v = g.W.Sink.contents c.obey-served.result.writer in
     let held = c.into_disk.ensures.held in
-    IfSome_then (g.I.Source.remaining c.args.reader.now) c.obey-keeper.ensures.fed
+    IfSome_then (g.I.Source.remaining c.args.reader.now) c.obey-served.ensures.fed
     (λ input fed.
     let more : List Submitted = new_to keeper (submitted_by (orders_of plan input)) in
     let feeds : Feeds view answers marks r u v keeper new more = fed in
@@ -93,7 +95,7 @@ returns-clause-fed g c = λ fits.
     subst (λ (p : List Line). Stands (states_by answers p) keeper.standing history) (sym c.in-Ok.ensures.plan) is in
     let also : (history : List Submitted) → Stands (states_by answers plan) keeper.standing history → more ≡ new_after (greatest 0 history) (submitted_by (orders_of plan input)) =
     λ history is. ap (λ (q : ℕ). new_after q (submitted_by (orders_of plan input))) (last_of_history answers plan keeper.standing history is) in
-    let left_lawful : (view old).lawful → (view new.device).lawful = λ lawful. c.obey-keeper.ensures.disk.lawful.0 (c.in-Ok.ensures.device.lawful.0 lawful) in
+    let left_lawful : (view old).lawful → (view new.device).lawful = λ lawful. c.obey-served.ensures.disk.lawful.0 (c.in-Ok.ensures.device.lawful.0 lawful) in
     record {
       fed = on_ok_weaker r (λ (carries : Carries answers keeper new more) lawful history told.
           let is = stands lawful history told in
@@ -129,3 +131,11 @@ returns-clause-fed g c = λ fits.
             all_out = λ never. absurd (let no = never in cc);
           });
     })
+
+pub returns-in-Err-clause-fault : goal.returns-in-Err-clause-fault
+returns-in-Err-clause-fault g c =
+    in_some (g.I.Source.remaining c.args.reader.now) (λ input. for_other g.W.Sink.HasRoom c.args.plan.now input c.lack_fault.result c.args.writer (ap is_other c.lack_fault.ensures.fault ∙ other_lack c.in-Err.lack))
+
+pub returns-in-Err-recover-clause-fault : goal.returns-in-Err-recover-clause-fault
+returns-in-Err-recover-clause-fault g c =
+    in_some (g.I.Source.remaining c.args.reader.now) (λ input. for_other g.W.Sink.HasRoom c.args.plan.now input c.from.result c.args.writer (ap is_other c.from.ensures ∙ other_keeper c.in-Err-recover.refusal))

@@ -15,34 +15,30 @@ use Rattle.td_feed.specs.Carried.{new_to, Carries, Leaves}
 use Rattle.td_feed.specs.Said.{Says, SaysBy}
 use Rattle.td_feed.specs.Session.{KeepsDisk, FeedsCopying}
 use Rattle.td_feed.specs.Held.{KeepsTo, seen_at, then_seen, told_seen}
-use Rattle.td_feed.proofs.SeenAsked.{none_seen, tells_taken, tells_nothing}
+use Rattle.td_feed.proofs.SeenAsked.{none_seen, tells_taken}
 use Rattle.td_feed.proofs.Copies.{as_they_ask, none_yet, none_made}
-use Rattle.td_feed.proofs.Held.{base_itself, keeps_same, keeps_on}
+use Rattle.td_feed.proofs.Held.{base_itself, keeps_on}
 use Rattle.td_feed.proofs.Carrying.{at_ok, at_err}
-use Rattle.td_feed.proofs.Counting.{as_err, other_fault, memory_no_device}
+use Rattle.td_feed.proofs.Counting.{as_err, other_fault}
+use Rattle.td_feed.proofs.Replies.{of_reader_error}
 use Rattle.td_feed.proofs.Lines.{says_nothing, some_of_all, some_of_more, by_refusal, handed_on}
 use Rattle.td_feed.proofs.Obeyed.{HasObeyed, none_obeyed, some_obeyed, some_refused, some_held, held_there, some_seen, told_on, came_left, came_there, left_there, seen_there, is_sound, at_end_carried, at_end_left, at_end_said, at_end_came, at_end_copied, at_end_seen, none_left, none_of}
-use Rattle.td_feed.proofs.Placed.{script_at, next_script, script_same, next_there, AsksFrom, asks_there}
+use Rattle.td_feed.specs.Served.{script_at}
+use Rattle.td_feed.proofs.Placed.{next_script, script_same, next_there, AsksFrom, asks_there}
 use Rattle.td_feed.proofs.Causes.{if_of_writer, handed_of_writer, of_reader, of_seen, tells_there}
-use Rattle.td_feed.proofs.Sessions.{done, known, in_some_is, disk_same, disk_then, disk_handed, none_fed, err_fed}
+use Rattle.td_feed.proofs.Sessions.{done, known, in_some_is, disk_same, disk_then, disk_handed, err_fed}
 use Rattle.td_feed.proofs.in_turn.obey_each.Goals as goal
 
 not_read : (f : Fault) → is_of_reader f ≡ true → f ≡ Keeper Device → ⊥
 not_read f of_reader is = absurd (let no : is_of_reader (Keeper Device) ≡ true = ap is_of_reader (sym is) ∙ of_reader in cc)
 
-pub returns-then-is_refused-clause-disk : goal.returns-then-is_refused-clause-disk
-returns-then-is_refused-clause-disk g c = disk_same _ refl memory_no_device
+-- a refusal of a step
+is_err : (P : Fault → Type 0) (r : Result (Unit {0}) Fault) → IsErrAnd r P → (f : Fault) × (r ≡ Err f)
+is_err P (Ok d) none = absurd none
+is_err P (Err f) holds = (f, refl)
 
-pub returns-then-is_refused-clause-fed : goal.returns-then-is_refused-clause-fed
-returns-then-is_refused-clause-fed g c = in_some_is (script_at g.S.Asking.script (g.E.Obey.keeping c.args.engine.now) c.args.orders.now) (λ s is. none_fed _ c.requires.whole)
-
-pub returns-in_err-begin-clause-disk : goal.returns-in_err-begin-clause-disk
-returns-in_err-begin-clause-disk g c =
-    disk_handed c.from_residual.result c.from_residual.ensures.1
-    (subst (λ (k : Keeping g.row.D.Denot). KeepsDisk g.D.Disk.view (as_err (Unit {0}) c.in_err-begin.field-0.0) k.device (g.E.Obey.keeping c.begin.new.engine).device) c.allow.ensures c.in_err-begin.ensures.disk)
-
-pub returns-in_err-begin-clause-fed : goal.returns-in_err-begin-clause-fed
-returns-in_err-begin-clause-fed g c =
+pub returns-in_err-begin-clause-served : goal.returns-in_err-begin-clause-served
+returns-in_err-begin-clause-served g c =
     let view = g.D.Disk.view in
     let answers = g.L.Law.answers in
     let marks = g.W.Voice.marks in
@@ -53,14 +49,32 @@ returns-in_err-begin-clause-fed g c =
     let old = g.E.Obey.keeping c.args.engine.now in
     let new = g.E.Obey.keeping c.begin.new.engine in
     let fed = c.in_err-begin.ensures.fed in
-    in_some_is (script_at g.S.Asking.script (g.E.Obey.keeping c.args.engine.now) c.args.orders.now)
-    (λ s is. err_fed _ c.from_residual.result (notes_in s.orders) c.from_residual.ensures.1 (as_they_ask s.orders)
-    (none_left view answers marks new_view old new (new_to old (submissions s.orders)) c.requires.whole (subst (λ (k : Keeping g.row.D.Denot). Leaves view answers k new []) c.allow.ensures fed.left))
-    (handed_on view answers marks c.from_residual.result c.in_err-begin.field-0.0 u u w old old new [] [] (new_to old (submissions s.orders)) [] [] (notes_in s.orders) (notes_in s.orders) refl c.from_residual.ensures.1 (says_nothing view answers marks u old)
-    (subst (λ (k : Keeping g.row.D.Denot). SaysBy view answers marks (Err c.in_err-begin.field-0.0) u w k new [] []) c.allow.ensures fed.said))
-    (subst (λ (has : Option (List (Copied g.row.H-New.Denot))). MakesCopies view new_view answers (copied_in (notes_in s.orders)) had has old (new_to old (submissions s.orders))) (sym c.tell_seen.ensures.copies)
-    (subst (λ (said : List (List ℕ × ℕ)). MakesCopies view new_view answers said had had old (new_to old (submissions s.orders))) (sym (none_yet s.orders))
-    (none_made view new_view answers had old (new_to old (submissions s.orders))))))
+    let pace = c.args.pace in
+    let first : Option ℕ = c.first_seen-seen.result in
+    let is : first ≡ seen_at pace old.standing.epoch = c.first_seen-seen.ensures ∙ ap (λ (k : Keeping g.row.D.Denot). seen_at pace k.standing.epoch) c.keeper.ensures in
+    let keeps : KeepsTo first old new = subst (λ (k : Keeping g.row.D.Denot). KeepsTo first k new) c.allow.ensures c.begin.ensures.held in
+    let r = c.from_residual.result in
+    let refused = is_err _ r c.from_residual.ensures.1 in
+    record {
+      disk =
+          disk_handed r c.from_residual.ensures.1
+          (subst (λ (k : Keeping g.row.D.Denot). KeepsDisk view (as_err (Unit {0}) c.in_err-begin.field-0.0) k.device new.device) c.allow.ensures c.in_err-begin.ensures.disk);
+      fed =
+          in_some_is (script_at g.S.Asking.script old c.args.orders.now)
+          (λ s there. err_fed _ r (notes_in s.orders) c.from_residual.ensures.1 (as_they_ask s.orders)
+          (none_left view answers marks new_view old new (new_to old (submissions s.orders)) c.requires.whole (subst (λ (k : Keeping g.row.D.Denot). Leaves view answers k new []) c.allow.ensures fed.left))
+          (handed_on view answers marks r c.in_err-begin.field-0.0 u u w old old new [] [] (new_to old (submissions s.orders)) [] [] (notes_in s.orders) (notes_in s.orders) refl c.from_residual.ensures.1 (says_nothing view answers marks u old)
+          (subst (λ (k : Keeping g.row.D.Denot). SaysBy view answers marks (Err c.in_err-begin.field-0.0) u w k new [] []) c.allow.ensures fed.said))
+          (subst (λ (has : Option (List (Copied g.row.H-New.Denot))). MakesCopies view new_view answers (copied_in (notes_in s.orders)) had has old (new_to old (submissions s.orders))) (sym c.tell_seen.ensures.copies)
+          (subst (λ (said : List (List ℕ × ℕ)). MakesCopies view new_view answers said had had old (new_to old (submissions s.orders))) (sym (none_yet s.orders))
+          (none_made view new_view answers had old (new_to old (submissions s.orders))))));
+      held = in_some_is (script_at g.S.Asking.script old c.args.orders.now) (λ s there. subst (λ (f : Option ℕ). KeepsTo (then_seen f s.orders) old new) is (keeps_on first s.orders old new keeps));
+      seen =
+          in_some_is (script_at g.S.Asking.script old c.args.orders.now)
+          (λ s there. tells_taken r (seen_at pace old.standing.epoch) first (g.H.Host.seen c.args.host.now) (g.H.Host.seen c.tell_seen.new.host) s.orders [] s.orders refl
+          (subst (λ (q : Result (Unit {0}) Fault). OnOk q (s.orders ≡ [])) (sym refused.1) tt) c.tell_seen.ensures.seen (is ∙ sym (none_seen (seen_at pace old.standing.epoch))));
+      fault = handed_of_writer (g.S.Asking.overlong c.args.orders.now) (script_at g.S.Asking.script old c.args.orders.now) g.W.Sink.HasRoom r c.in_err-begin.field-0.0 c.from_residual.ensures.1 c.in_err-begin.ensures.fault;
+    }
 
 pub loop-asked-init : goal.loop-asked-init
 loop-asked-init g c =
@@ -77,7 +91,7 @@ loop-asked-init g c =
     let old = g.E.Obey.keeping c.args.engine.now in
     let script = script_at g.S.Asking.script old c.args.orders.now in
     let carried : Carries answers old new [] = subst (λ (k : Keeping g.row.D.Denot). Carries answers k new []) same fed.carried in
-    let pace = c.args.feeding.pace in
+    let pace = c.args.pace in
     let first : Option ℕ = c.first_seen-seen.result in
     let is : first ≡ seen_at pace old.standing.epoch = c.first_seen-seen.ensures ∙ ap (λ (k : Keeping g.row.D.Denot). seen_at pace k.standing.epoch) c.keeper.ensures in
     let disk : KeepsDisk g.D.Disk.view done old.device new.device =
@@ -96,14 +110,8 @@ loop-asked-init g c =
       overlong = λ is. is;
     }
 
-pub returns-in_err-asked-clause-disk : goal.returns-in_err-asked-clause-disk
-returns-in_err-asked-clause-disk g c =
-    disk_then c.loop-asked.invariant.disk
-    (disk_same c.from_residual-in_err-asked.result refl
-    (other_fault c.from_residual-in_err-asked.result (λ (f : Fault). f ≡ c.in_err-asked.field-0.0) c.from_residual-in_err-asked.ensures.1 (λ is. not_read c.in_err-asked.field-0.0 c.in_err-asked.ensures.err (sym is))))
-
-pub returns-in_err-asked-clause-fed : goal.returns-in_err-asked-clause-fed
-returns-in_err-asked-clause-fed g c =
+pub returns-in_err-asked-clause-served : goal.returns-in_err-asked-clause-served
+returns-in_err-asked-clause-served g c =
     let view = g.D.Disk.view in
     let answers = g.L.Law.answers in
     let marks = g.W.Voice.marks in
@@ -116,37 +124,40 @@ returns-in_err-asked-clause-fed g c =
     let has = g.H.Host.copies c.loop-asked.host in
     let old = g.E.Obey.keeping c.args.engine.now in
     let there = g.E.Obey.keeping c.loop-asked.engine in
-    let first = seen_at c.args.feeding.pace (g.E.Obey.keeping c.args.engine.now).standing.epoch in
+    let first = seen_at c.args.pace (g.E.Obey.keeping c.args.engine.now).standing.epoch in
     let seen = c.loop-asked.seen in
     let so = c.loop-asked.invariant.obeyed in
     let r = c.from_residual-in_err-asked.result in
-    in_some_is script
-    (λ s is.
-    let later : (m : List Aside) × ComeOf (notes_in s.orders) (so.answered ++ m) × MakesCopies view new_view answers (copied_in (so.answered ++ m)) had has old (new_to old (submissions s.orders)) =
-    known _ script s is (came_there view answers marks new_view script left left u v had has old there first seen so) in
-    err_fed _ r (so.answered ++ later.0) c.from_residual-in_err-asked.ensures.1 later.1
-    (known _ script s is (left_there view answers marks new_view script left left u v had has old there first seen so))
-    (by_refusal view answers marks r (λ (f : Fault). f ≡ c.in_err-asked.field-0.0) u v old there (new_to old (submissions s.orders)) (so.answered ++ later.0) c.from_residual-in_err-asked.ensures.1
-    (λ f holds. inr (some_of_more view answers marks u v old there so.answered later.0 (so.answered ++ later.0) refl (some_of_all view answers marks u v old there (new_to old (submissions so.done)) so.answered so.said))))
-    later.2)
+    let overlong = g.S.Asking.overlong c.loop-asked.orders in
+    let cause = c.in_err-asked.field-0.0 in
+    record {
+      disk =
+          disk_then c.loop-asked.invariant.disk
+          (disk_same r refl
+          (other_fault r (λ (f : Fault). f ≡ cause) c.from_residual-in_err-asked.ensures.1 (λ is. not_read cause c.in_err-asked.ensures.err (sym is))));
+      fed =
+          in_some_is script
+          (λ s is.
+          let later : (m : List Aside) × ComeOf (notes_in s.orders) (so.answered ++ m) × MakesCopies view new_view answers (copied_in (so.answered ++ m)) had has old (new_to old (submissions s.orders)) =
+          known _ script s is (came_there view answers marks new_view script left left u v had has old there first seen so) in
+          err_fed _ r (so.answered ++ later.0) c.from_residual-in_err-asked.ensures.1 later.1
+          (known _ script s is (left_there view answers marks new_view script left left u v had has old there first seen so))
+          (by_refusal view answers marks r (λ (f : Fault). f ≡ cause) u v old there (new_to old (submissions s.orders)) (so.answered ++ later.0) c.from_residual-in_err-asked.ensures.1
+          (λ f holds. inr (some_of_more view answers marks u v old there so.answered later.0 (so.answered ++ later.0) refl (some_of_all view answers marks f u v old there (new_to old (submissions so.done)) so.answered (of_reader_error f (ap is_of_reader holds ∙ c.in_err-asked.ensures.err)) so.said))))
+          later.2);
+      held = held_there view answers marks new_view script left left u v had has old there first seen so there (base_itself there);
+      seen =
+          seen_there view answers marks new_view script left left u v had has old there first seen so
+          r (g.H.Host.seen c.args.host.now) (g.H.Host.seen c.loop-asked.host) (is_err _ r c.from_residual-in_err-asked.ensures.1) c.loop-asked.invariant.told;
+      fault =
+          of_reader g.W.Sink.HasRoom (g.S.Asking.overlong c.args.orders.now) overlong (script_at g.S.Asking.script old c.args.orders.now) (script_at g.S.Asking.script there c.loop-asked.orders) c.loop-asked.invariant.obeyed.done
+          r cause c.from_residual-in_err-asked.ensures.1 c.loop-asked.invariant.overlong c.loop-asked.invariant.obeyed.known c.in_err-asked.ensures.err
+          (tells_there g.S.Asking.script there c.room_of-room.result.told c.room_of-room.result.last c.loop-asked.orders overlong cause
+          (ap (λ (r : Room). r.told) c.room_of-room.ensures ∙ ap (λ (k : Keeping g.row.D.Denot). last_epoch k.standing) c.keeper-keeper.ensures) (ap (λ (r : Room). r.last) c.room_of-room.ensures ∙ ap (λ (k : Keeping g.row.D.Denot). last_request k.standing) c.keeper-keeper.ensures) c.in_err-asked.ensures.fault);
+    }
 
-pub returns-in_err-asked-clause-held : goal.returns-in_err-asked-clause-held
-returns-in_err-asked-clause-held g c =
-    let first = seen_at c.args.feeding.pace (g.E.Obey.keeping c.args.engine.now).standing.epoch in
-    let script = script_at g.S.Asking.script (g.E.Obey.keeping c.args.engine.now) c.args.orders.now in
-    let left = script_at g.S.Asking.script (g.E.Obey.keeping c.loop-asked.engine) c.loop-asked.orders in
-    let old = g.E.Obey.keeping c.args.engine.now in
-    let there = g.E.Obey.keeping c.loop-asked.engine in
-    held_there g.D.Disk.view g.L.Law.answers g.W.Voice.marks g.H.New.Disk.view script left left (g.W.Sink.contents c.args.writer.now) (g.W.Sink.contents c.loop-asked.writer) (g.H.Host.copies c.args.host.now) (g.H.Host.copies c.loop-asked.host) old there first c.loop-asked.seen c.loop-asked.invariant.obeyed there (base_itself there)
-
-pub returns-in_err-next-clause-disk : goal.returns-in_err-next-clause-disk
-returns-in_err-next-clause-disk g c =
-    disk_then c.loop-asked.invariant.disk
-    (disk_same c.from_residual-in_err-next.result refl
-    (other_fault c.from_residual-in_err-next.result (λ (f : Fault). f ≡ c.in_err-next.field-0.0) c.from_residual-in_err-next.ensures.1 (λ is. not_read c.in_err-next.field-0.0 c.in_err-next.ensures.err (sym is))))
-
-pub returns-in_err-next-clause-fed : goal.returns-in_err-next-clause-fed
-returns-in_err-next-clause-fed g c =
+pub returns-in_err-next-clause-served : goal.returns-in_err-next-clause-served
+returns-in_err-next-clause-served g c =
     let view = g.D.Disk.view in
     let answers = g.L.Law.answers in
     let marks = g.W.Voice.marks in
@@ -159,34 +170,42 @@ returns-in_err-next-clause-fed g c =
     let has = g.H.Host.copies c.loop-asked.host in
     let old = g.E.Obey.keeping c.args.engine.now in
     let there = g.E.Obey.keeping c.loop-asked.engine in
-    let first = seen_at c.args.feeding.pace (g.E.Obey.keeping c.args.engine.now).standing.epoch in
+    let first = seen_at c.args.pace (g.E.Obey.keeping c.args.engine.now).standing.epoch in
     let seen = c.loop-asked.seen in
     let so = c.loop-asked.invariant.obeyed in
     let r = c.from_residual-in_err-next.result in
-    in_some_is script
-    (λ s is.
-    let later : (m : List Aside) × ComeOf (notes_in s.orders) (so.answered ++ m) × MakesCopies view new_view answers (copied_in (so.answered ++ m)) had has old (new_to old (submissions s.orders)) =
-    known _ script s is (came_there view answers marks new_view script left left u v had has old there first seen so) in
-    err_fed _ r (so.answered ++ later.0) c.from_residual-in_err-next.ensures.1 later.1
-    (known _ script s is (left_there view answers marks new_view script left left u v had has old there first seen so))
-    (by_refusal view answers marks r (λ (f : Fault). f ≡ c.in_err-next.field-0.0) u v old there (new_to old (submissions s.orders)) (so.answered ++ later.0) c.from_residual-in_err-next.ensures.1
-    (λ f holds. inr (some_of_more view answers marks u v old there so.answered later.0 (so.answered ++ later.0) refl (some_of_all view answers marks u v old there (new_to old (submissions so.done)) so.answered so.said))))
-    later.2)
+    let asked = c.in-Some-2.asked in
+    let asks : Asks (script_at g.S.Asking.script there c.loop-asked.orders) (next_script g.S.Asking.script there (Some asked) c.next_asked.new.self) (Some asked) =
+    asks_there g.S.Asking.script there c.room_of-room.result.told c.room_of-room.result.last c.loop-asked.orders c.next_asked.new.self (Some asked)
+    (ap (λ (r : Room). r.told) c.room_of-room.ensures ∙ ap (λ (k : Keeping g.row.D.Denot). last_epoch k.standing) c.keeper-keeper.ensures) (ap (λ (r : Room). r.last) c.room_of-room.ensures ∙ ap (λ (k : Keeping g.row.D.Denot). last_request k.standing) c.keeper-keeper.ensures)
+    (subst (AsksFrom g.S.Asking.script c.room_of-room.result.told c.room_of-room.result.last c.loop-asked.orders c.next_asked.new.self) c.in-Some-2.is c.in_ok-asked.ensures.asked) in
+    record {
+      disk =
+          disk_then c.loop-asked.invariant.disk
+          (disk_same r refl
+          (other_fault r (λ (f : Fault). f ≡ c.in_err-next.field-0.0) c.from_residual-in_err-next.ensures.1 (λ is. not_read c.in_err-next.field-0.0 c.in_err-next.ensures.err (sym is))));
+      fed =
+          in_some_is script
+          (λ s is.
+          let later : (m : List Aside) × ComeOf (notes_in s.orders) (so.answered ++ m) × MakesCopies view new_view answers (copied_in (so.answered ++ m)) had has old (new_to old (submissions s.orders)) =
+          known _ script s is (came_there view answers marks new_view script left left u v had has old there first seen so) in
+          err_fed _ r (so.answered ++ later.0) c.from_residual-in_err-next.ensures.1 later.1
+          (known _ script s is (left_there view answers marks new_view script left left u v had has old there first seen so))
+          (by_refusal view answers marks r (λ (f : Fault). f ≡ c.in_err-next.field-0.0) u v old there (new_to old (submissions s.orders)) (so.answered ++ later.0) c.from_residual-in_err-next.ensures.1
+          (λ f holds. inr (some_of_more view answers marks u v old there so.answered later.0 (so.answered ++ later.0) refl (some_of_all view answers marks f u v old there (new_to old (submissions so.done)) so.answered (of_reader_error f (ap is_of_reader holds ∙ c.in_err-next.ensures.err)) so.said))))
+          later.2);
+      held = held_there view answers marks new_view script left left u v had has old there first seen so there (base_itself there);
+      seen =
+          seen_there view answers marks new_view script left left u v had has old there first seen so
+          r (g.H.Host.seen c.args.host.now) (g.H.Host.seen c.loop-asked.host) (is_err _ r c.from_residual-in_err-next.ensures.1) c.loop-asked.invariant.told;
+      fault =
+          of_seen g.W.Sink.HasRoom (g.S.Asking.overlong c.args.orders.now) (script_at g.S.Asking.script old c.args.orders.now) (script_at g.S.Asking.script there c.loop-asked.orders)
+          (next_script g.S.Asking.script there (Some asked) c.next_asked.new.self) c.loop-asked.invariant.obeyed.done asked r c.in_err-next.field-0.0 c.from_residual-in_err-next.ensures.1
+          c.loop-asked.invariant.obeyed.known asks c.in_err-next.ensures.fault;
+    }
 
-pub returns-in_err-next-clause-held : goal.returns-in_err-next-clause-held
-returns-in_err-next-clause-held g c =
-    let first = seen_at c.args.feeding.pace (g.E.Obey.keeping c.args.engine.now).standing.epoch in
-    let script = script_at g.S.Asking.script (g.E.Obey.keeping c.args.engine.now) c.args.orders.now in
-    let left = script_at g.S.Asking.script (g.E.Obey.keeping c.loop-asked.engine) c.loop-asked.orders in
-    let old = g.E.Obey.keeping c.args.engine.now in
-    let there = g.E.Obey.keeping c.loop-asked.engine in
-    held_there g.D.Disk.view g.L.Law.answers g.W.Voice.marks g.H.New.Disk.view script left left (g.W.Sink.contents c.args.writer.now) (g.W.Sink.contents c.loop-asked.writer) (g.H.Host.copies c.args.host.now) (g.H.Host.copies c.loop-asked.host) old there first c.loop-asked.seen c.loop-asked.invariant.obeyed there (base_itself there)
-
-pub returns-in_default-clause-disk : goal.returns-in_default-clause-disk
-returns-in_default-clause-disk g c = disk_then c.loop-asked.invariant.disk c.settle.ensures.disk
-
-pub returns-in_default-clause-fed : goal.returns-in_default-clause-fed
-returns-in_default-clause-fed g c =
+pub returns-in_default-clause-served : goal.returns-in_default-clause-served
+returns-in_default-clause-served g c =
     let view = g.D.Disk.view in
     let answers = g.L.Law.answers in
     let marks = g.W.Voice.marks in
@@ -199,7 +218,7 @@ returns-in_default-clause-fed g c =
     let has = g.H.Host.copies c.loop-asked.host in
     let old = g.E.Obey.keeping c.args.engine.now in
     let there = g.E.Obey.keeping c.loop-asked.engine in
-    let first = seen_at c.args.feeding.pace (g.E.Obey.keeping c.args.engine.now).standing.epoch in
+    let first = seen_at c.args.pace (g.E.Obey.keeping c.args.engine.now).standing.epoch in
     let seen = c.loop-asked.seen in
     let so = c.loop-asked.invariant.obeyed in
     let next = next_script g.S.Asking.script there None c.next_asked.new.self in
@@ -211,20 +230,31 @@ returns-in_default-clause-fed g c =
     asks_there g.S.Asking.script there c.room_of-room.result.told c.room_of-room.result.last c.loop-asked.orders c.next_asked.new.self None
     (ap (λ (r : Room). r.told) c.room_of-room.ensures ∙ ap (λ (k : Keeping g.row.D.Denot). last_epoch k.standing) c.keeper-keeper.ensures) (ap (λ (r : Room). r.last) c.room_of-room.ensures ∙ ap (λ (k : Keeping g.row.D.Denot). last_request k.standing) c.keeper-keeper.ensures)
     (subst (AsksFrom g.S.Asking.script c.room_of-room.result.told c.room_of-room.result.last c.loop-asked.orders c.next_asked.new.self) none c.in_ok-asked.ensures.asked) in
-    in_some_is script
-    (λ s is. record {
-      sound = at_ok r (known _ script s is (is_sound view answers marks new_view script left next u v had has old there first seen so asks));
-      fed = record {
-        done = so.answered;
-        came = known _ script s is (at_end_came view answers marks new_view script left next u v had has old there first seen so asks);
-        fed = record {
-          carried = at_ok r (known _ script s is (at_end_carried view answers marks new_view script left next u v had has old there first seen so new asks c.settle.ensures.rests));
-          left = at_err r (known _ script s is (at_end_left view answers marks new_view script left next u v had has old there first seen so new asks c.settle.ensures.rests));
-          said = known _ script s is (at_end_said view answers marks new_view script left next u v had has old there first seen so r w new asks c.settle.ensures.fed.said);
-        };
-        copied = known _ script s is (at_end_copied view answers marks new_view script left next u v had has old there first seen so asks);
-      };
-    })
+    record {
+      disk = disk_then c.loop-asked.invariant.disk c.settle.ensures.disk;
+      fed =
+          in_some_is script
+          (λ s is. record {
+            sound = at_ok r (known _ script s is (is_sound view answers marks new_view script left next u v had has old there first seen so asks));
+            fed = record {
+              done = so.answered;
+              came = known _ script s is (at_end_came view answers marks new_view script left next u v had has old there first seen so asks);
+              fed = record {
+                carried = at_ok r (known _ script s is (at_end_carried view answers marks new_view script left next u v had has old there first seen so new asks c.settle.ensures.rests));
+                left = at_err r (known _ script s is (at_end_left view answers marks new_view script left next u v had has old there first seen so new asks c.settle.ensures.rests));
+                said = known _ script s is (at_end_said view answers marks new_view script left next u v had has old there first seen so r w new asks c.settle.ensures.fed.said);
+              };
+              copied = known _ script s is (at_end_copied view answers marks new_view script left next u v had has old there first seen so asks);
+            };
+          });
+      held =
+          held_there view answers marks new_view script left left u v had has old there first seen so
+          new c.settle.ensures.base;
+      seen =
+          at_end_seen view answers marks new_view script left next u v had has old there first seen so
+          r (g.H.Host.seen c.args.host.now) (g.H.Host.seen c.loop-asked.host) asks c.loop-asked.invariant.told;
+      fault = if_of_writer (g.S.Asking.overlong c.args.orders.now) (script_at g.S.Asking.script old c.args.orders.now) g.W.Sink.HasRoom r c.settle.ensures.fault;
+    }
 
 pub loop-asked-preserved : goal.loop-asked-preserved
 loop-asked-preserved g c =
@@ -240,7 +270,7 @@ loop-asked-preserved g c =
     let has = g.H.Host.copies c.loop-asked.host in
     let old = g.E.Obey.keeping c.args.engine.now in
     let there = g.E.Obey.keeping c.loop-asked.engine in
-    let first = seen_at c.args.feeding.pace (g.E.Obey.keeping c.args.engine.now).standing.epoch in
+    let first = seen_at c.args.pace (g.E.Obey.keeping c.args.engine.now).standing.epoch in
     let seen = c.loop-asked.seen in
     let so = c.loop-asked.invariant.obeyed in
     let w = g.W.Sink.contents c.obey_at_pace.new.writer in
@@ -273,14 +303,8 @@ loop-asked-preserved g c =
       overlong = λ is. c.loop-asked.invariant.overlong (c.in_ok-asked.ensures.overlong is);
     }
 
-pub returns-in_err-obey_at_pace-clause-disk : goal.returns-in_err-obey_at_pace-clause-disk
-returns-in_err-obey_at_pace-clause-disk g c =
-    disk_then c.loop-asked.invariant.disk
-    (disk_handed c.from_residual-in_err-obey_at_pace.result c.from_residual-in_err-obey_at_pace.ensures.1
-    (subst (λ (k : Keeping g.row.D.Denot). KeepsDisk g.D.Disk.view (as_err (Unit {0}) c.in_err-obey_at_pace.field-0.0) k.device (g.E.Obey.keeping c.obey_at_pace.new.engine).device) c.allow-in-loop-asked.ensures c.in_err-obey_at_pace.ensures.disk))
-
-pub returns-in_err-obey_at_pace-clause-fed : goal.returns-in_err-obey_at_pace-clause-fed
-returns-in_err-obey_at_pace-clause-fed g c =
+pub returns-in_err-obey_at_pace-clause-served : goal.returns-in_err-obey_at_pace-clause-served
+returns-in_err-obey_at_pace-clause-served g c =
     let view = g.D.Disk.view in
     let answers = g.L.Law.answers in
     let marks = g.W.Voice.marks in
@@ -293,7 +317,7 @@ returns-in_err-obey_at_pace-clause-fed g c =
     let has = g.H.Host.copies c.loop-asked.host in
     let old = g.E.Obey.keeping c.args.engine.now in
     let there = g.E.Obey.keeping c.loop-asked.engine in
-    let first = seen_at c.args.feeding.pace (g.E.Obey.keeping c.args.engine.now).standing.epoch in
+    let first = seen_at c.args.pace (g.E.Obey.keeping c.args.engine.now).standing.epoch in
     let seen = c.loop-asked.seen in
     let so = c.loop-asked.invariant.obeyed in
     let w = g.W.Sink.contents c.obey_at_pace.new.writer in
@@ -312,172 +336,32 @@ returns-in_err-obey_at_pace-clause-fed g c =
     subst (λ (k : Keeping g.row.D.Denot). FeedsCopying view answers marks new_view (as_err (Unit {0}) e) v w has then k new (new_to k (asked_for asked)) (notes_for asked)) same
     (subst (λ (h : Option (List (Copied g.row.H-New.Denot))). FeedsCopying view answers marks new_view (as_err (Unit {0}) e) v w h then (g.E.Obey.keeping c.allow-in-loop-asked.new.self) new (new_to (g.E.Obey.keeping c.allow-in-loop-asked.new.self) (asked_for asked)) (notes_for asked))
     c.tell_seen-in-loop-asked.ensures.copies c.in_err-obey_at_pace.ensures.fed) in
-    in_some_is script
-    (λ s is.
-    let later : (m : List Aside) × ComeOf (notes_in s.orders) ((so.answered ++ fed.done) ++ m) × MakesCopies view new_view answers (copied_in ((so.answered ++ fed.done) ++ m)) had then old (new_to old (submissions s.orders)) =
-    known _ script s is (came_left view answers marks new_view script left next u v w had has then old there new asked first seen so asks fed.done fed.came fed.copied) in
-    err_fed _ r ((so.answered ++ fed.done) ++ later.0) c.from_residual-in_err-obey_at_pace.ensures.1 later.1
-    (known _ script s is (some_refused view answers marks new_view script left next u v w had has then old there new asked first seen so asks fed.fed.left))
-    (handed_on view answers marks r e u v w old there new (new_to old (submissions so.done)) (new_to there (asked_for asked)) (new_to old (submissions s.orders)) so.answered fed.done later.0 ((so.answered ++ fed.done) ++ later.0) refl c.from_residual-in_err-obey_at_pace.ensures.1 so.said fed.fed.said)
-    later.2)
-
-pub returns-then-is_refused-clause-held : goal.returns-then-is_refused-clause-held
-returns-then-is_refused-clause-held g c =
-    let k = g.E.Obey.keeping c.args.engine.now in
-    in_some_is (script_at g.S.Asking.script (g.E.Obey.keeping c.args.engine.now) c.args.orders.now) (λ s is. keeps_same (then_seen (seen_at c.args.feeding.pace k.standing.epoch) s.orders) (base_itself k))
-
-pub returns-in_err-begin-clause-held : goal.returns-in_err-begin-clause-held
-returns-in_err-begin-clause-held g c =
-    let old = g.E.Obey.keeping c.args.engine.now in
-    let new = g.E.Obey.keeping c.begin.new.engine in
-    let pace = c.args.feeding.pace in
-    let first : Option ℕ = c.first_seen-seen.result in
-    let is : first ≡ seen_at pace old.standing.epoch = c.first_seen-seen.ensures ∙ ap (λ (k : Keeping g.row.D.Denot). seen_at pace k.standing.epoch) c.keeper.ensures in
-    let keeps : KeepsTo first old new = subst (λ (k : Keeping g.row.D.Denot). KeepsTo first k new) c.allow.ensures c.begin.ensures.held in
-    in_some_is (script_at g.S.Asking.script (g.E.Obey.keeping c.args.engine.now) c.args.orders.now) (λ s there. subst (λ (f : Option ℕ). KeepsTo (then_seen f s.orders) old new) is (keeps_on first s.orders old new keeps))
-
-pub returns-in_default-clause-held : goal.returns-in_default-clause-held
-returns-in_default-clause-held g c =
-    let first = seen_at c.args.feeding.pace (g.E.Obey.keeping c.args.engine.now).standing.epoch in
-    let script = script_at g.S.Asking.script (g.E.Obey.keeping c.args.engine.now) c.args.orders.now in
-    let left = script_at g.S.Asking.script (g.E.Obey.keeping c.loop-asked.engine) c.loop-asked.orders in
-    held_there g.D.Disk.view g.L.Law.answers g.W.Voice.marks g.H.New.Disk.view script left left (g.W.Sink.contents c.args.writer.now) (g.W.Sink.contents c.loop-asked.writer) (g.H.Host.copies c.args.host.now) (g.H.Host.copies c.loop-asked.host) (g.E.Obey.keeping c.args.engine.now) (g.E.Obey.keeping c.loop-asked.engine) first c.loop-asked.seen c.loop-asked.invariant.obeyed
-    (g.E.Obey.keeping c.settle.new.engine) c.settle.ensures.base
-
-pub returns-in_err-obey_at_pace-clause-held : goal.returns-in_err-obey_at_pace-clause-held
-returns-in_err-obey_at_pace-clause-held g c =
-    let script = script_at g.S.Asking.script (g.E.Obey.keeping c.args.engine.now) c.args.orders.now in
-    let left = script_at g.S.Asking.script (g.E.Obey.keeping c.loop-asked.engine) c.loop-asked.orders in
-    let old = g.E.Obey.keeping c.args.engine.now in
-    let there = g.E.Obey.keeping c.loop-asked.engine in
-    let new = g.E.Obey.keeping c.obey_at_pace.new.engine in
-    let first = seen_at c.args.feeding.pace old.standing.epoch in
-    let asked = c.in-Some-2.asked in
-    let next = next_script g.S.Asking.script there (Some asked) c.next_asked.new.self in
-    let asks : Asks left next (Some asked) =
-    asks_there g.S.Asking.script there c.room_of-room.result.told c.room_of-room.result.last c.loop-asked.orders c.next_asked.new.self (Some asked)
-    (ap (λ (r : Room). r.told) c.room_of-room.ensures ∙ ap (λ (k : Keeping g.row.D.Denot). last_epoch k.standing) c.keeper-keeper.ensures) (ap (λ (r : Room). r.last) c.room_of-room.ensures ∙ ap (λ (k : Keeping g.row.D.Denot). last_request k.standing) c.keeper-keeper.ensures)
-    (subst (AsksFrom g.S.Asking.script c.room_of-room.result.told c.room_of-room.result.last c.loop-asked.orders c.next_asked.new.self) c.in-Some-2.is c.in_ok-asked.ensures.asked) in
-    some_held g.D.Disk.view g.L.Law.answers g.W.Voice.marks g.H.New.Disk.view script left next (g.W.Sink.contents c.args.writer.now) (g.W.Sink.contents c.loop-asked.writer) (g.W.Sink.contents c.obey_at_pace.new.writer) (g.H.Host.copies c.args.host.now) (g.H.Host.copies c.loop-asked.host) (g.H.Host.copies c.obey_at_pace.new.host) old there new asked first c.loop-asked.seen
-    c.loop-asked.invariant.obeyed asks c.in_ok-next.next c.in_ok-next.ensures.ok
-    (subst (λ (k : Keeping g.row.D.Denot). KeepsTo c.in_ok-next.next k new) c.allow-in-loop-asked.ensures c.obey_at_pace.ensures.held)
-
-pub returns-then-is_refused-clause-seen : goal.returns-then-is_refused-clause-seen
-returns-then-is_refused-clause-seen g c =
-    let first = seen_at c.args.feeding.pace (g.E.Obey.keeping c.args.engine.now).standing.epoch in
-    in_some_is (script_at g.S.Asking.script (g.E.Obey.keeping c.args.engine.now) c.args.orders.now) (λ s is. tells_nothing _ first (g.H.Host.seen c.args.host.now) s.orders)
-
--- a refusal of a step
-is_err : (P : Fault → Type 0) (r : Result (Unit {0}) Fault) → IsErrAnd r P → (f : Fault) × (r ≡ Err f)
-is_err P (Ok d) none = absurd none
-is_err P (Err f) holds = (f, refl)
-
-pub returns-in_err-begin-clause-seen : goal.returns-in_err-begin-clause-seen
-returns-in_err-begin-clause-seen g c =
-    let old = g.E.Obey.keeping c.args.engine.now in
-    let pace = c.args.feeding.pace in
-    let first : Option ℕ = c.first_seen-seen.result in
-    let is : first ≡ seen_at pace old.standing.epoch = c.first_seen-seen.ensures ∙ ap (λ (k : Keeping g.row.D.Denot). seen_at pace k.standing.epoch) c.keeper.ensures in
-    let r = c.from_residual.result in
-    let refused = is_err _ r c.from_residual.ensures.1 in
-    in_some_is (script_at g.S.Asking.script old c.args.orders.now)
-    (λ s there. tells_taken r (seen_at pace old.standing.epoch) first (g.H.Host.seen c.args.host.now) (g.H.Host.seen c.tell_seen.new.host) s.orders [] s.orders refl
-    (subst (λ (q : Result (Unit {0}) Fault). OnOk q (s.orders ≡ [])) (sym refused.1) tt) c.tell_seen.ensures.seen (is ∙ sym (none_seen (seen_at pace old.standing.epoch))))
-
-pub returns-in_err-asked-clause-seen : goal.returns-in_err-asked-clause-seen
-returns-in_err-asked-clause-seen g c =
-    let first = seen_at c.args.feeding.pace (g.E.Obey.keeping c.args.engine.now).standing.epoch in
-    let script = script_at g.S.Asking.script (g.E.Obey.keeping c.args.engine.now) c.args.orders.now in
-    let left = script_at g.S.Asking.script (g.E.Obey.keeping c.loop-asked.engine) c.loop-asked.orders in
-    let old = g.E.Obey.keeping c.args.engine.now in
-    let there = g.E.Obey.keeping c.loop-asked.engine in
-    let r = c.from_residual-in_err-asked.result in
-    seen_there g.D.Disk.view g.L.Law.answers g.W.Voice.marks g.H.New.Disk.view script left left (g.W.Sink.contents c.args.writer.now) (g.W.Sink.contents c.loop-asked.writer) (g.H.Host.copies c.args.host.now) (g.H.Host.copies c.loop-asked.host) old there first c.loop-asked.seen c.loop-asked.invariant.obeyed
-    r (g.H.Host.seen c.args.host.now) (g.H.Host.seen c.loop-asked.host) (is_err _ r c.from_residual-in_err-asked.ensures.1) c.loop-asked.invariant.told
-
-pub returns-in_err-next-clause-seen : goal.returns-in_err-next-clause-seen
-returns-in_err-next-clause-seen g c =
-    let first = seen_at c.args.feeding.pace (g.E.Obey.keeping c.args.engine.now).standing.epoch in
-    let script = script_at g.S.Asking.script (g.E.Obey.keeping c.args.engine.now) c.args.orders.now in
-    let left = script_at g.S.Asking.script (g.E.Obey.keeping c.loop-asked.engine) c.loop-asked.orders in
-    let old = g.E.Obey.keeping c.args.engine.now in
-    let there = g.E.Obey.keeping c.loop-asked.engine in
-    let r = c.from_residual-in_err-next.result in
-    seen_there g.D.Disk.view g.L.Law.answers g.W.Voice.marks g.H.New.Disk.view script left left (g.W.Sink.contents c.args.writer.now) (g.W.Sink.contents c.loop-asked.writer) (g.H.Host.copies c.args.host.now) (g.H.Host.copies c.loop-asked.host) old there first c.loop-asked.seen c.loop-asked.invariant.obeyed
-    r (g.H.Host.seen c.args.host.now) (g.H.Host.seen c.loop-asked.host) (is_err _ r c.from_residual-in_err-next.ensures.1) c.loop-asked.invariant.told
-
-pub returns-in_default-clause-seen : goal.returns-in_default-clause-seen
-returns-in_default-clause-seen g c =
-    let first = seen_at c.args.feeding.pace (g.E.Obey.keeping c.args.engine.now).standing.epoch in
-    let script = script_at g.S.Asking.script (g.E.Obey.keeping c.args.engine.now) c.args.orders.now in
-    let left = script_at g.S.Asking.script (g.E.Obey.keeping c.loop-asked.engine) c.loop-asked.orders in
-    let old = g.E.Obey.keeping c.args.engine.now in
-    let there = g.E.Obey.keeping c.loop-asked.engine in
-    let next = next_script g.S.Asking.script there None c.next_asked.new.self in
-    let none = none_of c.in_ok-asked.field-0 c.in_default.not-Some in
-    let asks : Asks left next None =
-    asks_there g.S.Asking.script there c.room_of-room.result.told c.room_of-room.result.last c.loop-asked.orders c.next_asked.new.self None
-    (ap (λ (r : Room). r.told) c.room_of-room.ensures ∙ ap (λ (k : Keeping g.row.D.Denot). last_epoch k.standing) c.keeper-keeper.ensures) (ap (λ (r : Room). r.last) c.room_of-room.ensures ∙ ap (λ (k : Keeping g.row.D.Denot). last_request k.standing) c.keeper-keeper.ensures)
-    (subst (AsksFrom g.S.Asking.script c.room_of-room.result.told c.room_of-room.result.last c.loop-asked.orders c.next_asked.new.self) none c.in_ok-asked.ensures.asked) in
-    at_end_seen g.D.Disk.view g.L.Law.answers g.W.Voice.marks g.H.New.Disk.view script left next (g.W.Sink.contents c.args.writer.now) (g.W.Sink.contents c.loop-asked.writer) (g.H.Host.copies c.args.host.now) (g.H.Host.copies c.loop-asked.host) old there first c.loop-asked.seen c.loop-asked.invariant.obeyed
-    c.settle.result (g.H.Host.seen c.args.host.now) (g.H.Host.seen c.loop-asked.host) asks c.loop-asked.invariant.told
-
-pub returns-in_err-obey_at_pace-clause-seen : goal.returns-in_err-obey_at_pace-clause-seen
-returns-in_err-obey_at_pace-clause-seen g c =
-    let script = script_at g.S.Asking.script (g.E.Obey.keeping c.args.engine.now) c.args.orders.now in
-    let left = script_at g.S.Asking.script (g.E.Obey.keeping c.loop-asked.engine) c.loop-asked.orders in
-    let old = g.E.Obey.keeping c.args.engine.now in
-    let there = g.E.Obey.keeping c.loop-asked.engine in
-    let new = g.E.Obey.keeping c.obey_at_pace.new.engine in
-    let first = seen_at c.args.feeding.pace old.standing.epoch in
-    let asked = c.in-Some-2.asked in
-    let next = next_script g.S.Asking.script there (Some asked) c.next_asked.new.self in
-    let asks : Asks left next (Some asked) =
-    asks_there g.S.Asking.script there c.room_of-room.result.told c.room_of-room.result.last c.loop-asked.orders c.next_asked.new.self (Some asked)
-    (ap (λ (r : Room). r.told) c.room_of-room.ensures ∙ ap (λ (k : Keeping g.row.D.Denot). last_epoch k.standing) c.keeper-keeper.ensures) (ap (λ (r : Room). r.last) c.room_of-room.ensures ∙ ap (λ (k : Keeping g.row.D.Denot). last_request k.standing) c.keeper-keeper.ensures)
-    (subst (AsksFrom g.S.Asking.script c.room_of-room.result.told c.room_of-room.result.last c.loop-asked.orders c.next_asked.new.self) c.in-Some-2.is c.in_ok-asked.ensures.asked) in
     let later = c.in_ok-next.next in
     let before = g.H.Host.seen c.args.host.now in
-    let r = c.from_residual-in_err-obey_at_pace.result in
-    let so = c.loop-asked.invariant.obeyed in
-    let u = g.W.Sink.contents c.args.writer.now in
-    let v = g.W.Sink.contents c.loop-asked.writer in
-    let w = g.W.Sink.contents c.obey_at_pace.new.writer in
-    let had = g.H.Host.copies c.args.host.now in
-    let has = g.H.Host.copies c.loop-asked.host in
-    let then = g.H.Host.copies c.obey_at_pace.new.host in
-    some_seen g.D.Disk.view g.L.Law.answers g.W.Voice.marks g.H.New.Disk.view script left next u v w had has then old there new asked first c.loop-asked.seen so asks
-    r later before (g.H.Host.seen c.obey_at_pace.new.host) (is_err _ r c.from_residual-in_err-obey_at_pace.ensures.1) c.in_ok-next.ensures.ok
-    (c.obey_at_pace.ensures.seen ∙ c.tell_seen-in-loop-asked.ensures.seen ∙ ap (λ (o : Option ℕ). told_seen o later) c.loop-asked.invariant.told
-    ∙ told_on g.D.Disk.view g.L.Law.answers g.W.Voice.marks g.H.New.Disk.view script left next u v w had has then old there new asked first c.loop-asked.seen so asks later before c.in_ok-next.ensures.ok)
-
-pub returns-in_err-asked-clause-fault : goal.returns-in_err-asked-clause-fault
-returns-in_err-asked-clause-fault g c =
-    let there = g.E.Obey.keeping c.loop-asked.engine in
-    let overlong = g.S.Asking.overlong c.loop-asked.orders in
-    let f = c.in_err-asked.field-0.0 in
-    of_reader g.W.Sink.HasRoom (g.S.Asking.overlong c.args.orders.now) overlong (script_at g.S.Asking.script (g.E.Obey.keeping c.args.engine.now) c.args.orders.now) (script_at g.S.Asking.script there c.loop-asked.orders) c.loop-asked.invariant.obeyed.done
-    c.from_residual-in_err-asked.result f c.from_residual-in_err-asked.ensures.1 c.loop-asked.invariant.overlong c.loop-asked.invariant.obeyed.known c.in_err-asked.ensures.err
-    (tells_there g.S.Asking.script there c.room_of-room.result.told c.room_of-room.result.last c.loop-asked.orders overlong f
-    (ap (λ (r : Room). r.told) c.room_of-room.ensures ∙ ap (λ (k : Keeping g.row.D.Denot). last_epoch k.standing) c.keeper-keeper.ensures) (ap (λ (r : Room). r.last) c.room_of-room.ensures ∙ ap (λ (k : Keeping g.row.D.Denot). last_request k.standing) c.keeper-keeper.ensures) c.in_err-asked.ensures.fault)
-
-pub returns-in_default-clause-fault : goal.returns-in_default-clause-fault
-returns-in_default-clause-fault g c =
-    if_of_writer (g.S.Asking.overlong c.args.orders.now) (script_at g.S.Asking.script (g.E.Obey.keeping c.args.engine.now) c.args.orders.now) g.W.Sink.HasRoom c.settle.result c.settle.ensures.fault
-
-pub returns-in_err-next-clause-fault : goal.returns-in_err-next-clause-fault
-returns-in_err-next-clause-fault g c =
-    let there = g.E.Obey.keeping c.loop-asked.engine in
-    let asked = c.in-Some-2.asked in
-    let asks : Asks (script_at g.S.Asking.script there c.loop-asked.orders) (next_script g.S.Asking.script there (Some asked) c.next_asked.new.self) (Some asked) =
-    asks_there g.S.Asking.script there c.room_of-room.result.told c.room_of-room.result.last c.loop-asked.orders c.next_asked.new.self (Some asked)
-    (ap (λ (r : Room). r.told) c.room_of-room.ensures ∙ ap (λ (k : Keeping g.row.D.Denot). last_epoch k.standing) c.keeper-keeper.ensures) (ap (λ (r : Room). r.last) c.room_of-room.ensures ∙ ap (λ (k : Keeping g.row.D.Denot). last_request k.standing) c.keeper-keeper.ensures)
-    (subst (AsksFrom g.S.Asking.script c.room_of-room.result.told c.room_of-room.result.last c.loop-asked.orders c.next_asked.new.self) c.in-Some-2.is c.in_ok-asked.ensures.asked) in
-    of_seen g.W.Sink.HasRoom (g.S.Asking.overlong c.args.orders.now) (script_at g.S.Asking.script (g.E.Obey.keeping c.args.engine.now) c.args.orders.now) (script_at g.S.Asking.script there c.loop-asked.orders)
-    (next_script g.S.Asking.script there (Some asked) c.next_asked.new.self) c.loop-asked.invariant.obeyed.done asked c.from_residual-in_err-next.result c.in_err-next.field-0.0 c.from_residual-in_err-next.ensures.1
-    c.loop-asked.invariant.obeyed.known asks c.in_err-next.ensures.fault
-
-pub returns-in_err-obey_at_pace-clause-fault : goal.returns-in_err-obey_at_pace-clause-fault
-returns-in_err-obey_at_pace-clause-fault g c =
-    handed_of_writer (g.S.Asking.overlong c.args.orders.now) (script_at g.S.Asking.script (g.E.Obey.keeping c.args.engine.now) c.args.orders.now) g.W.Sink.HasRoom
-    c.from_residual-in_err-obey_at_pace.result c.in_err-obey_at_pace.field-0.0 c.from_residual-in_err-obey_at_pace.ensures.1 c.in_err-obey_at_pace.ensures.fault
+    record {
+      disk =
+          disk_then c.loop-asked.invariant.disk
+          (disk_handed r c.from_residual-in_err-obey_at_pace.ensures.1
+          (subst (λ (k : Keeping g.row.D.Denot). KeepsDisk view (as_err (Unit {0}) e) k.device new.device) same c.in_err-obey_at_pace.ensures.disk));
+      fed =
+          in_some_is script
+          (λ s is.
+          let later : (m : List Aside) × ComeOf (notes_in s.orders) ((so.answered ++ fed.done) ++ m) × MakesCopies view new_view answers (copied_in ((so.answered ++ fed.done) ++ m)) had then old (new_to old (submissions s.orders)) =
+          known _ script s is (came_left view answers marks new_view script left next u v w had has then old there new asked first seen so asks fed.done fed.came fed.copied) in
+          err_fed _ r ((so.answered ++ fed.done) ++ later.0) c.from_residual-in_err-obey_at_pace.ensures.1 later.1
+          (known _ script s is (some_refused view answers marks new_view script left next u v w had has then old there new asked first seen so asks fed.fed.left))
+          (handed_on view answers marks r e u v w old there new (new_to old (submissions so.done)) (new_to there (asked_for asked)) (new_to old (submissions s.orders)) so.answered fed.done later.0 ((so.answered ++ fed.done) ++ later.0) refl c.from_residual-in_err-obey_at_pace.ensures.1 so.said fed.fed.said)
+          later.2);
+      held =
+          some_held view answers marks new_view script left next u v w had has then old there new asked first seen
+          so asks later c.in_ok-next.ensures.ok
+          (subst (λ (k : Keeping g.row.D.Denot). KeepsTo later k new) same c.obey_at_pace.ensures.held);
+      seen =
+          some_seen view answers marks new_view script left next u v w had has then old there new asked first seen so asks
+          r later before (g.H.Host.seen c.obey_at_pace.new.host) (is_err _ r c.from_residual-in_err-obey_at_pace.ensures.1) c.in_ok-next.ensures.ok
+          (c.obey_at_pace.ensures.seen ∙ c.tell_seen-in-loop-asked.ensures.seen ∙ ap (λ (o : Option ℕ). told_seen o later) c.loop-asked.invariant.told
+          ∙ told_on view answers marks new_view script left next u v w had has then old there new asked first seen so asks later before c.in_ok-next.ensures.ok);
+      fault =
+          handed_of_writer (g.S.Asking.overlong c.args.orders.now) (script_at g.S.Asking.script old c.args.orders.now) g.W.Sink.HasRoom
+          r e c.from_residual-in_err-obey_at_pace.ensures.1 c.in_err-obey_at_pace.ensures.fault;
+    }

@@ -24,7 +24,7 @@ use Rattle.td_orders.specs.Lines.{has_overlong}
 use Rattle.td_orders.specs.Placed.{placed}
 use Rattle.td_feed.specs.Fed.{EachTellsHistory, EachTellsSome}
 use Rattle.td_feed.specs.Carried.{new_to, Carries}
-use Rattle.td_feed.specs.Session.{limit_of, wanted_by, KeepsDisk, FeedsScript}
+use Rattle.td_feed.specs.Session.{limit_of, wanted_by, asked_at, KeepsDisk, FeedsScript}
 use Rattle.td_feed.proofs.Newness.{last_of_history}
 use Rattle.td_feed.proofs.Placed.{still_sound, seen_placed}
 use Rattle.td_feed.proofs.Carrying.{as_long, in_some, ended_some, ended_all, none_more, still_each, found}
@@ -35,7 +35,7 @@ use Rattle.td_report.specs.RefusedProofs.{refused}
 use Rattle.std.proofs.lemmas.Result.{on_ok_weaker}
 use Rattle.td_feed.specs.Caused.{IsOfStream}
 use Rattle.td_feed.proofs.Causes.{is_other, other_keeper, other_lack, refused_before, refused_at}
-use Rattle.td_feed.proofs.Sessions.{known, in_some_is, left_of, disk_same, disk_then, disk_recovered, disk_refused, refused_by}
+use Rattle.td_feed.proofs.Sessions.{mapped, in_some_is, left_of, disk_same, disk_then, disk_recovered, disk_refused, refused_by}
 use Rattle.td_feed.proofs.streaming.stream.Goals as goal
 
 -- the limit is that of the disk, where there is one
@@ -116,7 +116,7 @@ returns-in-Err-recover-clause-fed g c = λ fits.
       };
       copied = record {
         made = [];
-        kept = sym (with_none (g.H.Host.copies c.args.host.now));
+        kept = sym (with_none (g.H.Host.copies c.args.host));
         labelled = refl;
         each = λ lawful history told.
             All-nil (IsCopyOf g.H.New.Disk.view g.L.Law.answers c.args.plan.now
@@ -133,10 +133,10 @@ returns-in-Err-clause-seen g c = λ none. absurd (let some = c.in-Err.ensures.er
 pub returns-clause-disk : goal.returns-clause-disk
 returns-clause-disk g c =
     let view = g.D.Disk.view in
-    let r = c.obey-keeper.result.1 in
+    let r = c.obey-served.result.ended in
     subst (λ (d : g.row.D.Denot). KeepsDisk view r c.args.disk d) (sym c.into_disk.ensures.disk)
     (disk_then (disk_recovered c.in-Ok.ensures.device)
-    (subst (λ (d : g.row.D.Denot). KeepsDisk view r d c.obey-keeper.result.0.device) c.watched-keeper.ensures.device c.obey-keeper.ensures.disk))
+    (subst (λ (d : g.row.D.Denot). KeepsDisk view r d c.obey-served.result.keeper.device) c.watched-keeper.ensures.device c.obey-served.ensures.served.disk))
 
 pub returns-clause-fed : goal.returns-clause-fed
 returns-clause-fed g c = λ fits.
@@ -146,20 +146,20 @@ returns-clause-fed g c = λ fits.
     let plan = c.args.plan.now in
     let old = c.args.disk in
     let keeper : Keeping g.row.D.Denot = (record c.in-Ok.keeper { watch = c.watched-keeper.ensures.aside.0 }) in
-    let new = c.obey-keeper.result.0 in
-    let r = c.obey-keeper.result.1 in
-    let u = g.W.Sink.contents c.args.writer.now in
-    let v = g.W.Sink.contents c.obey-keeper.new.writer in
+    let new = c.obey-served.result.keeper in
+    let r = c.obey-served.result.ended in
+    let u = g.W.Sink.contents c.args.writer in
+    let v = g.W.Sink.contents c.obey-served.result.writer in
     let held = c.into_disk.ensures.held in
     let remaining = g.I.Source.remaining c.args.reader in
     let refuse = c.args.options.refuse in
     in_some_is remaining
     (λ input is.
-    let fed = known _ remaining input is c.obey-keeper.ensures.fed in
+    let fed = mapped _ (asked_at c.args.options plan c.watched-keeper.result) remaining input is c.obey-served.ensures.served.fed in
     let script_at : Keeping g.row.D.Denot → Script =
     λ k. placed refuse (last_epoch k.standing) (last_request k.standing) (script_of c.args.options.placing c.args.options.hold c.args.options.questions c.args.options.copies (limit_of refuse k.head.shape.m) plan input) in
     let keeps : KeepsTo (then_seen (first_seen c.args.options.hold keeper.standing.epoch) (script_at keeper).orders) keeper new =
-    subst (λ (k : Keeping g.row.D.Denot). KeepsTo (then_seen (first_seen c.args.options.hold k.standing.epoch) (script_at k).orders) k new) c.watched-keeper.ensures.aside.1 (known _ remaining input is c.obey-keeper.ensures.held) in
+    subst (λ (k : Keeping g.row.D.Denot). KeepsTo (then_seen (first_seen c.args.options.hold k.standing.epoch) (script_at k).orders) k new) c.watched-keeper.ensures.aside.1 (mapped _ (asked_at c.args.options plan c.watched-keeper.result) remaining input is c.obey-served.ensures.served.held) in
     let limit : Option ℕ = limit_of refuse keeper.head.shape.m in
     let told : ℕ = last_epoch keeper.standing in
     let last : ℕ = last_request keeper.standing in
@@ -168,8 +168,8 @@ returns-clause-fed g c = λ fits.
     let wanted : List Submitted = submissions asked.orders in
     let more : List Submitted = new_to keeper wanted in
     let new_view = g.H.New.Disk.view in
-    let had = g.H.Host.copies c.args.host.now in
-    let has = g.H.Host.copies c.obey-keeper.new.host in
+    let had = g.H.Host.copies c.args.host in
+    let has = g.H.Host.copies c.obey-served.result.host in
     let whole : FeedsScript view answers marks new_view r u v had has keeper new asked =
     subst (λ (k : Keeping g.row.D.Denot). FeedsScript view answers marks new_view r u v had has k new (script_at k)) c.watched-keeper.ensures.aside.1 fed in
     let feeds = whole.fed.fed in
@@ -186,7 +186,7 @@ returns-clause-fed g c = λ fits.
     let first = last_of_history answers plan keeper.standing history is in
     let long = sym (as_long answers plan keeper.standing history is) in
     λ i. new_after (first i) (submissions (placed refuse (long i) (first i) raw).orders) in
-    let left_lawful : (view old).lawful → (view new.device).lawful = λ lawful. c.obey-keeper.ensures.disk.lawful.0 (subst (λ (d : g.row.D.Denot). (view d).lawful) (sym c.watched-keeper.ensures.device) (c.in-Ok.ensures.device.lawful.0 lawful)) in
+    let left_lawful : (view old).lawful → (view new.device).lawful = λ lawful. c.obey-served.ensures.served.disk.lawful.0 (subst (λ (d : g.row.D.Denot). (view d).lawful) (sym c.watched-keeper.ensures.device) (c.in-Ok.ensures.device.lawful.0 lawful)) in
     let driven = always_driven view answers marks r u v keeper new more whole.fed.done feeds.said in
     let goes = λ (hold : c.args.options.hold ≡ true). held_by {old = keeper} {new = new} c.args.options.hold keeper.standing.epoch asked.orders hold keeps in
     let most = λ (hold : c.args.options.hold ≡ true) (lawful : (view old).lawful) (kept : ℕ) (each : EachKeepsTo plan kept (view old).state).
@@ -217,7 +217,7 @@ returns-clause-fed g c = λ fits.
       notes = whole.fed.done;
       came = whole.fed.came;
       said = feeds.said;
-      all_out = λ is. c.obey-keeper.ensures.all_out (eqb-true c.args.workers 1 is);
+      all_out = λ is. c.obey-served.ensures.all_out (eqb-true c.args.workers 1 is);
     } in
     let copied = whole.fed.copied in
     record {
@@ -277,11 +277,11 @@ returns-clause-seen g c = λ fits.
     let plan = c.args.plan.now in
     let old = c.args.disk in
     let keeper : Keeping g.row.D.Denot = (record c.in-Ok.keeper { watch = c.watched-keeper.ensures.aside.0 }) in
-    let r = c.obey-keeper.result.1 in
+    let r = c.obey-served.result.ended in
     let refuse = c.args.options.refuse in
     let hold = c.args.options.hold in
-    let before = g.H.Host.seen c.args.host.now in
-    let after = g.H.Host.seen c.obey-keeper.new.host in
+    let before = g.H.Host.seen c.args.host in
+    let after = g.H.Host.seen c.obey-served.result.host in
     let remaining = g.I.Source.remaining c.args.reader in
     in_some_is remaining
     (λ input is.
@@ -295,7 +295,7 @@ returns-clause-seen g c = λ fits.
           let sound = c.in-Ok.ensures.device.lawful.0 lawful in
           let was = safe.each (view keeper.device).state.bytes (g.met.D.Disk.counts_now keeper.device (view old).state.moment (view keeper.device).state.bytes sound safe.later (g.met.D.Disk.reads_image keeper.device sound)) in
           (was.0, was.1, subst (λ (i : List ℕ). Told plan i (Ok keeper.standing)) was.2 (c.in-Ok.ensures.told lawful));
-      seen = subst (λ (k : Keeping g.row.D.Denot). TellsSeen r (first_seen hold k.standing.epoch) (orders_at k) before after) c.watched-keeper.ensures.aside.1 (known _ remaining input is c.obey-keeper.ensures.seen);
+      seen = subst (λ (k : Keeping g.row.D.Denot). TellsSeen r (first_seen hold k.standing.epoch) (orders_at k) before after) c.watched-keeper.ensures.aside.1 (mapped _ (asked_at c.args.options plan c.watched-keeper.result) remaining input is c.obey-served.ensures.served.seen);
     }))
 
 pub returns-in-Err-clause-fault : goal.returns-in-Err-clause-fault
@@ -316,7 +316,7 @@ returns-clause-fault g c =
     let plan = c.args.plan.now in
     let old = c.args.disk in
     let keeper : Keeping g.row.D.Denot = (record c.in-Ok.keeper { watch = c.watched-keeper.ensures.aside.0 }) in
-    let r = c.obey-keeper.result.1 in
+    let r = c.obey-served.result.ended in
     let refuse = c.args.options.refuse in
     let remaining = g.I.Source.remaining c.args.reader in
     in_some_is remaining
@@ -325,7 +325,7 @@ returns-clause-fault g c =
     λ k. placed refuse (last_epoch k.standing) (last_request k.standing) (script_of c.args.options.placing c.args.options.hold c.args.options.questions c.args.options.copies (limit_of refuse k.head.shape.m) plan input) in
     refused_at view answers has c.args.options r plan old input keeper.head.shape.m (last_epoch keeper.standing) (last_request keeper.standing)
     (subst (λ (rest : Option (List ℕ)). IfErr r (IsOfStream (has_overlong rest) (script_at keeper) has)) is
-    (subst (λ (k : Keeping g.row.D.Denot). IfErr r (IsOfStream (has_overlong remaining) (script_at k) has)) c.watched-keeper.ensures.aside.1 (known _ remaining input is c.obey-keeper.ensures.fault)))
+    (subst (λ (k : Keeping g.row.D.Denot). IfErr r (IsOfStream (has_overlong remaining) (script_at k) has)) c.watched-keeper.ensures.aside.1 (mapped _ (asked_at c.args.options plan c.watched-keeper.result) remaining input is c.obey-served.ensures.served.fault)))
     (λ lawful history known.
     let safe : CrashSafe Unchanged (view old).state (view keeper.device).state = c.in-Ok.ensures.crash_safe lawful in
     let stood =

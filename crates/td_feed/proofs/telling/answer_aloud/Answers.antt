@@ -9,7 +9,7 @@ returns-in_err-reply-clause-disk g c = disk_handed c.from_residual.result c.from
 
 pub returns-in_err-reply-clause-fed : goal.returns-in_err-reply-clause-fed
 returns-in_err-reply-clause-fed g c =
-    fed_unanswered _ c.from_residual.result (Answer c.args.vertex c.args.wanted) c.from_residual.ensures.1 (c.in_err-reply.ensures.rests refl) c.in_err-reply.ensures.refused.refused
+    fed_unanswered c.in_err-reply.field-0.0 c.from_residual.result (Answer c.args.vertex c.args.wanted) c.from_residual.ensures.1 (c.in_err-reply.ensures.rests refl) c.in_err-reply.ensures.refused.refused
 
 pub returns-clause-disk : goal.returns-clause-disk
 returns-clause-disk g c = disk_then c.in_ok-reply.ensures.disk (disk_same c.say_answer.result refl (no_device_if c.say_answer.result (c.say_answer.new.writer ≡ c.args.writer.now) c.say_answer.ensures.unsaid))

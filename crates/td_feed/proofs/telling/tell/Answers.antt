@@ -1,4 +1,4 @@
-use Rattle.std.proofs.Common.{◌≡◌, sym, ◌∙◌, inr}
+use Rattle.std.proofs.Common.{◌≡◌, sym, ◌∙◌}
 use Rattle.td_keeper.specs.declared.command.Command.{Command}
 use Rattle.td_keeper.specs.declared.command.Reply.{Reply}
 use Rattle.td_keeper.specs.Driven.{is_failed, ComesOf}
@@ -57,9 +57,9 @@ returns-clause-refused g c =
     let new = g.E.Obey.keeping c.tell_one.new.engine in
     let told = c.tell_one.ensures.told in
     let lawful_back = c.tell_one.ensures.lawful.1 in
-    err_of c.unless_refused.result reply (IsNotObeyed view answers command old new) (λ f. f ≡ fault_in reply) c.unless_refused.ensures.refused
-    (λ is. record {
-      refused = inr (reply, is, told.driven);
+    err_of c.unless_refused.result reply (λ f. IsNotObeyed view answers f command old new) (λ f. f ≡ fault_in reply) c.unless_refused.ensures.refused
+    (λ f is fault_is. record {
+      refused = record { reply = reply; refused = is; fault_is = fault_is; driven = told.driven };
       left =
           refused_any view answers c.advance_stands.ensures.each old new c.requires.whole lawful_back
           (λ lawful i image. g.met.D.Disk.counts_now new.device (view old.device).state.moment i lawful (told.further (lawful_back lawful) c.requires.whole).later image)

@@ -14,7 +14,7 @@ pub returns-in_err-reply-clause-disk : goal.returns-in_err-reply-clause-disk
 returns-in_err-reply-clause-disk g c = disk_handed c.from_residual.result c.from_residual.ensures.1 c.in_err-reply.ensures.disk
 
 pub returns-in_err-reply-clause-fed : goal.returns-in_err-reply-clause-fed
-returns-in_err-reply-clause-fed g c = fed_refused _ c.from_residual.result c.args.command c.from_residual.ensures.1 refl c.in_err-reply.ensures.refused
+returns-in_err-reply-clause-fed g c = fed_refused c.in_err-reply.field-0.0 c.from_residual.result c.args.command c.from_residual.ensures.1 refl c.in_err-reply.ensures.refused
 
 pub returns-clause-disk : goal.returns-clause-disk
 returns-clause-disk g c = disk_then c.in_ok-reply.ensures.disk (disk_same c.say.result refl (no_device_if c.say.result (c.say.new.writer ≡ c.args.writer.now) c.say.ensures.unsaid))

@@ -7,7 +7,7 @@ pub returns-in_err-tell-clause-disk : goal.returns-in_err-tell-clause-disk
 returns-in_err-tell-clause-disk g c = disk_handed c.from_residual.result c.from_residual.ensures.1 c.in_err-tell.ensures.disk
 
 pub returns-in_err-tell-clause-fed : goal.returns-in_err-tell-clause-fed
-returns-in_err-tell-clause-fed g c = λ marks w. fed_refused _ c.from_residual.result Release c.from_residual.ensures.1 refl c.in_err-tell.ensures.refused
+returns-in_err-tell-clause-fed g c = λ marks w. fed_refused c.in_err-tell.field-0.0 c.from_residual.result Release c.from_residual.ensures.1 refl c.in_err-tell.ensures.refused
 
 pub returns-in_err-tell-clause-rests : goal.returns-in_err-tell-clause-rests
 returns-in_err-tell-clause-rests g c = c.tell.ensures.rests refl

@@ -19,7 +19,7 @@ pub returns-in_err-tell-clause-disk : goal.returns-in_err-tell-clause-disk
 returns-in_err-tell-clause-disk g c = disk_then c.in_ok-release.ensures.disk (disk_handed c.from_residual-in_err-tell.result c.from_residual-in_err-tell.ensures.1 c.in_err-tell.ensures.disk)
 
 pub returns-in_err-tell-clause-fed : goal.returns-in_err-tell-clause-fed
-returns-in_err-tell-clause-fed g c = fed_after (c.in_ok-release.ensures.fed g.W.Voice.marks (g.W.Sink.contents c.args.writer.now)) (fed_refused _ c.from_residual-in_err-tell.result Settle c.from_residual-in_err-tell.ensures.1 refl c.in_err-tell.ensures.refused)
+returns-in_err-tell-clause-fed g c = fed_after (c.in_ok-release.ensures.fed g.W.Voice.marks (g.W.Sink.contents c.args.writer.now)) (fed_refused c.in_err-tell.field-0.0 c.from_residual-in_err-tell.result Settle c.from_residual-in_err-tell.ensures.1 refl c.in_err-tell.ensures.refused)
 
 pub returns-in_err-tell-clause-rests : goal.returns-in_err-tell-clause-rests
 returns-in_err-tell-clause-rests g c = went_on c.release.ensures.rests (c.tell.ensures.rests refl)
@@ -30,7 +30,7 @@ returns-in_err-tell-2-clause-disk g c = disk_then c.in_ok-release.ensures.disk (
 pub returns-in_err-tell-2-clause-fed : goal.returns-in_err-tell-2-clause-fed
 returns-in_err-tell-2-clause-fed g c =
     fed_after (c.in_ok-release.ensures.fed g.W.Voice.marks (g.W.Sink.contents c.args.writer.now)) (fed_after (fed_quietly Settle c.in_ok-tell.field-0 refl (c.tell.ensures.rests refl) c.in_ok-tell.ensures.obeyed)
-    (fed_refused _ c.from_residual-in_err-tell-2.result Collect c.from_residual-in_err-tell-2.ensures.1 refl c.in_err-tell-2.ensures.refused))
+    (fed_refused c.in_err-tell-2.field-0.0 c.from_residual-in_err-tell-2.result Collect c.from_residual-in_err-tell-2.ensures.1 refl c.in_err-tell-2.ensures.refused))
 
 pub returns-in_err-tell-2-clause-rests : goal.returns-in_err-tell-2-clause-rests
 returns-in_err-tell-2-clause-rests g c = went_on c.release.ensures.rests (went_on (c.tell.ensures.rests refl) (c.tell-2.ensures.rests refl))

@@ -5,10 +5,12 @@ use Rattle.std.proofs.lemmas.List.{append-nil}
 use Rattle.td_stamp.specs.declared.epoch_out.EpochOut.{EpochOut}
 use Rattle.td_keeper.specs.declared.command.Reply.TheVariants.{Out}
 use Rattle.td_console.specs.declared.faults.Fault.{Fault}
+use Rattle.td_console.specs.declared.faults.Fault.TheVariants.{Memory}
 use Rattle.td_feed.specs.Said.{line_of, out_lines}
 use Rattle.td_feed.proofs.Carrying.{unmoved, carries_after}
 use Rattle.td_feed.proofs.Counting.{other_fault}
-use Rattle.td_feed.proofs.Lines.{by_refusal, unheard, output_no_device, holding_nothing, holding_more, holding_piece, none_out, all_written, last_written}
+use Rattle.td_feed.proofs.Replies.{for_memory}
+use Rattle.td_feed.proofs.Lines.{by_refusal, some_for, unheard, output_no_device, holding_nothing, holding_more, holding_piece, none_out, all_written, last_written}
 use Rattle.td_feed.proofs.Sessions.{ok_no_device, disk_same, fed_quiet}
 use Rattle.td_feed.proofs.Held.{base_itself, base_then}
 use Rattle.td_feed.proofs.under_way.write_outs.Goals as goal
@@ -71,7 +73,7 @@ returns-in_err-print_out-clause-fed g c =
     let more = holding_more view answers marks u v old there new o held (held ++ line_of marks 0 (Out o)) so_far.said c.next_out.ensures.driven refl in
     fed_quiet c.from_residual.result (carries_after g.D.Disk.view g.L.Law.answers (g.E.Obey.keeping c.args.engine.now) (g.E.Obey.keeping c.loop-out.engine) (g.E.Obey.keeping c.next_out.new.engine) [] c.loop-out.invariant.carried c.next_out.ensures.carried)
     (by_refusal view answers marks c.from_residual.result (λ (f : Fault). f ≡ c.in_err-print_out.field-0.0) u v old new [] [] c.from_residual.ensures.1
-    (λ f is. inr more.some))
+    (λ f is. inr (some_for view answers marks f Memory u v old new [] (for_memory f (is ∙ c.in_err-print_out.ensures.err)) more.some)))
 
 pub returns-in_err-print_out-clause-disk : goal.returns-in_err-print_out-clause-disk
 returns-in_err-print_out-clause-disk g c =

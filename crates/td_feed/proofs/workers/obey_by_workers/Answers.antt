@@ -1,31 +1,26 @@
-use Rattle.std.proofs.Common.{refl}
-use Rattle.std.specs.Prelude.{Err}
-use Rattle.td_console.specs.declared.faults.Fault.TheVariants.{Memory}
-use Rattle.td_feed.proofs.Counting.{memory_no_device}
-use Rattle.td_store.specs.standing.Standing.{last_epoch, last_request}
-use Rattle.td_feed.proofs.Sessions.{in_some_is, disk_same, none_fed}
-use Rattle.td_feed.specs.Held.{seen_at, then_seen}
-use Rattle.td_feed.proofs.SeenAsked.{tells_nothing}
-use Rattle.td_feed.proofs.Held.{base_itself, keeps_same}
-use Rattle.td_feed.proofs.Causes.{if_of_writer}
+use Rattle.std.proofs.Common.{[], ◌∙◌}
+use Rattle.td_feed.proofs.Causes.{of_opening}
+use Rattle.td_feed.proofs.Counting.{memory_no_device, opening_no_device}
+use Rattle.td_feed.proofs.Replies.{of_memory, of_opened}
+use Rattle.td_feed.proofs.Serving.{serves_nothing, serves_ended, serves_same}
 use Rattle.td_feed.proofs.workers.obey_by_workers.Goals as goal
 
-pub returns-in-Err-clause-disk : goal.returns-in-Err-clause-disk
-returns-in-Err-clause-disk g c = disk_same _ refl memory_no_device
+pub returns-in-Err : goal.returns-in-Err
+returns-in-Err g c =
+    let refused = c.refused.ensures in
+    let opening = c.in-Err.ensures.refused in
+    serves_same refused.ended refused.keeper refused.writer refused.host
+    (serves_nothing c.in-Err.fault c.args.feeder.whole (opening_no_device c.in-Err.fault opening) (of_opened c.in-Err.fault opening []) (λ s. of_opening (g.S.Asking.overlong c.args.feeder.orders) s g.W.Sink.HasRoom c.in-Err.fault opening))
 
-pub returns-in-Err-clause-fed : goal.returns-in-Err-clause-fed
-returns-in-Err-clause-fed g c = in_some_is (g.S.Asking.script (last_epoch c.args.keeper.standing) (last_request c.args.keeper.standing) c.args.orders) (λ s is. none_fed _ c.requires.whole)
+pub returns-in-Ok-beside_workers_within : goal.returns-in-Ok-beside_workers_within
+returns-in-Ok-beside_workers_within g c =
+    let at = c.in-Ok-beside_workers_within in
+    let ended = c.ended_as-ended.ensures in
+    serves_ended at.served.ended c.ended_as-ended.result at.worked ended.ok ended.err at.ensures.gives
 
-pub returns-in-Err-clause-held : goal.returns-in-Err-clause-held
-returns-in-Err-clause-held g c =
-    in_some_is (g.S.Asking.script (last_epoch c.args.keeper.standing) (last_request c.args.keeper.standing) c.args.orders)
-    (λ s is. keeps_same (then_seen (seen_at c.args.feeding.pace c.args.keeper.standing.epoch) s.orders) (base_itself c.args.keeper))
-
-pub returns-in-Err-clause-seen : goal.returns-in-Err-clause-seen
-returns-in-Err-clause-seen g c =
-    in_some_is (g.S.Asking.script (last_epoch c.args.keeper.standing) (last_request c.args.keeper.standing) c.args.orders)
-    (λ s is. tells_nothing _ (seen_at c.args.feeding.pace c.args.keeper.standing.epoch) (g.H.Host.seen c.args.host.now) s.orders)
-
-pub returns-in-Err-clause-fault : goal.returns-in-Err-clause-fault
-returns-in-Err-clause-fault g c =
-    if_of_writer (g.S.Asking.overlong c.args.orders) (g.S.Asking.script (last_epoch c.args.keeper.standing) (last_request c.args.keeper.standing) c.args.orders) g.W.Sink.HasRoom (Err Memory) refl
+pub returns : goal.returns
+returns g c =
+    let back = c.in-Err-beside_workers_within.ensures.refused.1 in
+    let refused = c.refused-in-Err-beside_workers_within.ensures in
+    serves_same refused.ended (refused.keeper ∙ (λ i. (back i).feeder.keeper)) (refused.writer ∙ (λ i. (back i).feeder.writer)) (refused.host ∙ (λ i. (back i).feeder.host))
+    (serves_nothing _ c.args.feeder.whole memory_no_device (of_memory []) (λ s. tt))

@@ -9,6 +9,6 @@ pub returns : goal.returns
 returns g c =
     let fed = c.feed.ensures in
     subst (λ (s : Working _). FeedsBy (stored_beside g.L.Law.answers g.C.Closures.has_map g.C.Closures.has_group g.C.Closures.has_fold s.calls.below g.F.Formulas.closures)
-    g.D.Disk.view g.I.Source.remaining g.W.Sink.contents g.W.Voice.marks s.plan
-    c.args.disk c.feed.result.0 c.args.reader.now c.feed.new.reader c.args.writer.now c.feed.new.writer c.feed.result.1) c.new.ensures
+    g.D.Disk.view g.I.Source.remaining g.W.Sink.contents g.W.Sink.HasRoom g.W.Voice.marks s.plan
+    c.args.disk c.feed.result.disk c.args.reader.now c.feed.new.reader c.args.writer c.feed.result.writer c.feed.result.ended) c.new.ensures
     (record { disk_is_kept = fed.disk; lack = fed.lack; fits = fed.fits; fault = fed.fault; fed = fed.fed })

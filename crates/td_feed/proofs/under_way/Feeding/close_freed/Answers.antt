@@ -13,7 +13,7 @@ pub returns-in_err-tell-clause-disk : goal.returns-in_err-tell-clause-disk
 returns-in_err-tell-clause-disk g c = disk_handed c.from_residual.result c.from_residual.ensures.1 c.in_err-tell.ensures.disk
 
 pub returns-in_err-tell-clause-fed : goal.returns-in_err-tell-clause-fed
-returns-in_err-tell-clause-fed g c = λ marks w. fed_refused _ c.from_residual.result (CloseFree c.args.self.now.freed) c.from_residual.ensures.1 refl c.in_err-tell.ensures.refused
+returns-in_err-tell-clause-fed g c = λ marks w. fed_refused c.in_err-tell.field-0.0 c.from_residual.result (CloseFree c.args.self.now.freed) c.from_residual.ensures.1 refl c.in_err-tell.ensures.refused
 
 pub returns-clause-disk : goal.returns-clause-disk
 returns-clause-disk g c = disk_ok c.in_ok-tell.ensures.disk

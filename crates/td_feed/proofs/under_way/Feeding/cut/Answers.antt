@@ -17,7 +17,7 @@ pub returns-in_err-tell-clause-disk : goal.returns-in_err-tell-clause-disk
 returns-in_err-tell-clause-disk g c = disk_then c.in_ok-settle.ensures.disk (disk_handed c.from_residual-in_err-tell.result c.from_residual-in_err-tell.ensures.1 c.in_err-tell.ensures.disk)
 
 pub returns-in_err-tell-clause-fed : goal.returns-in_err-tell-clause-fed
-returns-in_err-tell-clause-fed g c = fed_after c.in_ok-settle.ensures.fed (fed_refused _ c.from_residual-in_err-tell.result c.cut_command.result c.from_residual-in_err-tell.ensures.1 (ap (λ (x : Command). new_to (g.E.Obey.keeping c.settle.new.engine) (batch_in x)) c.cut_command.ensures ∙ ap (new_to (g.E.Obey.keeping c.settle.new.engine)) (cut_submits_none c.args.seen)) c.in_err-tell.ensures.refused)
+returns-in_err-tell-clause-fed g c = fed_after c.in_ok-settle.ensures.fed (fed_refused c.in_err-tell.field-0.0 c.from_residual-in_err-tell.result c.cut_command.result c.from_residual-in_err-tell.ensures.1 (ap (λ (x : Command). new_to (g.E.Obey.keeping c.settle.new.engine) (batch_in x)) c.cut_command.ensures ∙ ap (new_to (g.E.Obey.keeping c.settle.new.engine)) (cut_submits_none c.args.seen)) c.in_err-tell.ensures.refused)
 
 pub returns-clause-disk : goal.returns-clause-disk
 returns-clause-disk g c = disk_then c.in_ok-settle.ensures.disk (disk_then c.in_ok-tell.ensures.disk c.tell_aloud.ensures.disk)

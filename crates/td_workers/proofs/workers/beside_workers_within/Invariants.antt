@@ -1,4 +1,4 @@
-use Rattle.td_workers.proofs.workers.beside_workers.Given as goal
+use Rattle.td_workers.proofs.workers.beside_workers_within.Given as goal
 
 abbrev pub ghosts-in_pool-K-Ledger : goal.ghosts-in_pool-K-Ledger
 ghosts-in_pool-K-Ledger g a = record { name = a.blank.name; parts = a.blank.parts }
