@@ -1,10 +1,11 @@
-"""The tracked files: whether each is one that something needs, none is too long, no merge was left half done, and crates are laid out."""
+"""The tracked files: whether each is one that something needs, none is too long, no merge was left half done, crates are laid out, and each
+library of this repository in a line of crates.txt is named by the crate's files."""
 
 import os
 import re
 import subprocess
 
-from lib import ROOT
+from lib import ROOT, lines_of_crates
 
 # The files that may be tracked, each kind in its place, and how many bytes one of them and all together may have.
 TRACKED = re.compile(r"""
@@ -57,6 +58,18 @@ def markers_in(text):
     lines = text.replace(b"\r\n", b"\n").split(b"\n")
     return [number for number, (above, line) in enumerate(zip([b"", *lines], lines), 1)
             if re.match(rb"(<{7}|>{7}|\|{7})( |$)", line) or line == b"=" * 7 and len(above) != 7]
+
+
+def are_named(tally):
+    """Whether each library of this repository in a crate's line of crates.txt stands in one of the crate's files: the kit sums the files of a crate once
+    for each way of these lines that leads to it, so that a name too many costs minutes at each check."""
+    lines = lines_of_crates()
+    for crate, line in lines.items():
+        files = [it for part in ("src", "specs", "proofs", "tests", "must-fail") for it in (ROOT / "crates" / crate / part).rglob("*") if it.is_file()]
+        names = set(re.findall(r"\w+", "\n".join(it.read_text(encoding="utf-8", errors="replace") for it in files)))
+        if unnamed := [it for it in line.split(":")[1].split() if it in lines and it not in names]:
+            tally.fail("crates.txt", f"no file of {crate} names {', '.join(unnamed)}: its line needs them not")
+    return tally.failed == 0
 
 
 def are_laid_out(tally):

@@ -141,10 +141,9 @@ NUMBER = re.compile(r"(?<![\w.])(0x[0-9A-Fa-f_]+|\d[\d_]*)(?:u8|u16|u32|u64|usiz
 
 
 def crates_of_disks():
-    """The crates that work on a disk: td_gate, and those that use it."""
-    lines = [line.partition(":") for line in (lib.ROOT / "crates.txt").read_text().splitlines() if ":" in line and line[0] != "#"]
-    uses = {left.split()[0]: right.split() for left, _, right in lines}
-    return [name for name, used in uses.items() if name == "td_gate" or "td_gate" in used]
+    """The crates that work on a disk: td_gate, and those that use it, directly or not."""
+    lines = lib.lines_of_crates()
+    return [name for name in lines if name == "td_gate" or "td_gate" in lib.below(name, lines)]
 
 
 def code_of(line, ending):

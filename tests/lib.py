@@ -86,10 +86,27 @@ def library(name, place):
     return compiled(ROOT / f"tests/{name}.c", place / f"{name}.so", "-shared", "-fPIC")
 
 
+def lines_of_crates():
+    """The line of each crate of this repository in crates.txt, by the crate's name."""
+    lines = (ROOT / "crates.txt").read_text(encoding="utf-8").splitlines()
+    return {line.split(":")[0].split()[0]: line for line in lines if ":" in line and line[0] != "#"}
+
+
+def below(crate, lines):
+    """The libraries that a crate uses, directly or not, by the lines of crates.txt: those of the kit are not followed."""
+    found, left = {}, [crate]
+    while left:
+        line = lines.get(left.pop(), ":")
+        new = [name for name in line.split(":")[1].split() if name not in found]
+        found.update(dict.fromkeys(new))
+        left += new
+    return list(found)
+
+
 def libraries_of(crates):
-    """The libraries that some crates use, by their lines in crates.txt, without these crates; and the lines of those of this repository, with their own."""
-    lines = {line.split(":")[0].split()[0]: line for line in (ROOT / "crates.txt").read_text().splitlines() if ":" in line and line[0] != "#"}
-    used = [name for name in dict.fromkeys(name for crate in crates for name in lines[crate].split(":")[1].split()) if name not in crates]
+    """The libraries that some crates use, directly or not, without these crates; and the lines of those of this repository, with their own."""
+    lines = lines_of_crates()
+    used = [name for name in dict.fromkeys(name for crate in crates for name in below(crate, lines)) if name not in crates]
     return used, [line for name, line in lines.items() if name in crates or name in used]
 
 
@@ -99,8 +116,8 @@ def build_beside(crates, source, place, name=None, more=(), parts=(), given=""):
     name = name or source.stem
     crates = crates.split()
     used, lines = libraries_of(crates)
-    for below in (line.split(":")[0].split()[0] for line in lines):
-        shutil.copytree(ROOT / "crates" / below, place / "crates" / below, ignore=shutil.ignore_patterns("edit_times"))
+    for it in (line.split(":")[0].split()[0] for line in lines):
+        shutil.copytree(ROOT / "crates" / it, place / "crates" / it, ignore=shutil.ignore_patterns("edit_times"))
     own = place / "crates" / name
     for part, text in (("src/main.rt", source.read_text()), *parts):
         (own / part).parent.mkdir(parents=True, exist_ok=True)
