@@ -120,7 +120,7 @@ PLACES = {
     PIECE: [
         "td/src/disk.rt: 4096, 2",
         "td_console/src/engine.rt: 4096, 1",
-        "td_feed/src/under_way.rt: 65536, 1",
+        "td_feed/src/settling.rt: 65536, 1",
         "td_orders/specs/Lines.antt: 4096, 1",
         "td_orders/src/line_reader.rt: 4096, 1",
         "td_orders/src/line_reader.rt: 65536, 1",

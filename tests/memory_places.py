@@ -65,6 +65,7 @@ PLACES = {
         "td_feed/src/copying.rt copied: told",
         "td_feed/src/saying.rt print_entries: print_answer",
         "td_feed/src/workers.rt obey_by_workers: beside_workers_within refused",
+        "td_feed/src/workers.rt open: Hall::open kept",
         "td_head/src/head.rt is_canonical: text",
         "td_head/src/head.rt told: text",
         "td_head/src/put.rt put_head: text",

@@ -1,5 +1,5 @@
 -- Why a feed or a stream is refused.
-use Rattle.std.proofs.Common.{◌≡◌, ◌⊎◌, ℕ, Bool, true, false, List, ◌++◌, length, inl, inr, refl, sym, ap, ◌∙◌, subst}
+use Rattle.std.proofs.Common.{⊎_elim, ◌≡◌, ◌⊎◌, ℕ, Bool, true, false, List, ◌++◌, length, inl, inr, refl, sym, ap, ◌∙◌, subst}
 use Rattle.std.specs.Prelude.{Option, Some, None, Result, Ok, Err, IfErr, IfSome}
 use Rattle.std.specs.Result.{IsOk, IsErrAnd}
 use Rattle.td_plan.specs.Lines.{Line as PlanLine}
@@ -62,6 +62,11 @@ if_of_keeper has (Err f) is = of_keeper has f is
 pub of_written : {W : Type 0} (has : W → ℕ → Type 0) (w : W) (n : ℕ) (r : Result (Unit {0}) Fault) → (has w n → IsOk r) → IfErr r (λ f. f ≡ Output) → IfErr r (IsOfWriter has)
 of_written has w n (Ok d) room err = tt
 of_written has w n (Err f) room err = subst (IsOfWriter has) (sym err) (λ always. let no = room (always w n) in cc)
+
+pub of_noted : {W : Type 0} (has : W → ℕ → Type 0) (w : W) (n : ℕ) (P : Type 0) (r : Result (Unit {0}) Fault) → IfErr r (λ f. (f ≡ Output) ⊎ ((f ≡ Memory) × P)) → (has w n → IfErr r (λ f. f ≡ Memory)) → IfErr r (IsOfWriter has)
+of_noted has w n P (Ok d) unsaid room = tt
+of_noted has w n P (Err f) unsaid room =
+    ⊎_elim (λ output. subst (IsOfWriter has) (sym output) (λ always. let no = sym output ∙ room (always w n) in absurd cc)) (λ memory. subst (IsOfWriter has) (sym memory.0) refl) unsaid
 
 -- the same fault is handed on
 pub handed : {T : Type 0} (P : Fault → Type 0) (r : Result T Fault) (e : Fault) → IsErrAnd r (λ f. f ≡ e) → P e → IfErr r P

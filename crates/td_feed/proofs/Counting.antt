@@ -18,9 +18,8 @@ use Rattle.td_console.specs.Refusals.{keeper_fault}
 use Rattle.td_console.specs.Answer.{lack_fault}
 use Rattle.td_calls.specs.declared.error.CallsError.{CallsError}
 use Rattle.td_calls.specs.declared.error.CallsError.TheVariants as calls
-use Rattle.td_feed.specs.Carried.{is_refused}
 use Rattle.td_feed.specs.Fed.{pool_fault}
-use Rattle.td_feed.specs.Said.{fault_in}
+use Rattle.td_feed.specs.Stepping.{outcome_of}
 use Rattle.td_feed.proofs.Lines.{EndedAs}
 
 -- a fault that is not the device's
@@ -77,43 +76,30 @@ pub same_count : {T : Type 0} (x : T) (n m : ℕ) → CountsDevice (as_ok x) (Ke
 same_count x n m counts = elim counts.stays as (λ _. m ≡ n) [ inl not_so ↦ absurd (let is = not_so in cc) | inr same ↦ same ]
 
 -- the fault of a refusal
-counts_error : (e : KeeperError) (f : Fault) (n m : ℕ) → f ≡ keeper_fault e → n ≤ m → (is_device e ≡ true → Rises n m) → (is_device e ≡ false → m ≡ n)
-    → CountsDevice (as_err Reply f) (Keeper error.Device) n m
-counts_error error.Device f n m is later rose same = record { later = later; rises = λ device. rose refl; stays = inl (ap (as_err Reply) is) }
-counts_error _ f n m is later rose same = record { later = later; rises = λ device. absurd (let not_so = device in let other = is in cc); stays = inr (same refl) }
+counts_error : (e : KeeperError) (n m : ℕ) → n ≤ m → (is_device e ≡ true → Rises n m) → (is_device e ≡ false → m ≡ n) → CountsDevice (as_err (Unit {0}) (keeper_fault e)) (Keeper error.Device) n m
+counts_error error.Device n m later rose same = record { later = later; rises = λ device. rose refl; stays = inl refl }
+counts_error _ n m later rose same = record { later = later; rises = λ device. absurd (let not_so = device in cc); stays = inr (same refl) }
 
--- a reply, or the fault for its refusal
-pub counts_told : (result : Result Reply Fault) (reply : Reply) (n m : ℕ) → IfOk result (λ r. (r ≡ reply) × (is_refused reply ≡ false))
-    → IfErr result (λ f. (is_refused reply ≡ true) × (f ≡ fault_in reply)) → n ≤ m → (some_failed (reply ∷ []) ≡ true → Rises n m) → (some_failed (reply ∷ []) ≡ false → m ≡ n)
-    → CountsDevice result (Keeper error.Device) n m
-counts_told (Err f) (Refused e b) n m ok err later rose same = counts_error e f n m err.1 later (λ is. rose (or_false (is_device e) ∙ is)) (λ is. same (or_false (is_device e) ∙ is))
-counts_told (Err f) (RefusedAll (group.Keeper e) b) n m ok err later rose same = counts_error e f n m err.1 later (λ is. rose (or_false (is_device e) ∙ is)) (λ is. same (or_false (is_device e) ∙ is))
-counts_told (Err f) (RefusedAll group.Repeated b) n m ok err later rose same =
-    record { later = later; rises = λ device. absurd (let not_so = device in let other = err.1 in cc); stays = inr (same refl) }
-counts_told (Err f) (Submitted k) n m ok err later rose same = absurd (let not_so = err.0 in cc)
-counts_told (Err f) (SubmittedAs k) n m ok err later rose same = absurd (let not_so = err.0 in cc)
-counts_told (Err f) (SubmittedAll k i) n m ok err later rose same = absurd (let not_so = err.0 in cc)
-counts_told (Err f) (Released k) n m ok err later rose same = absurd (let not_so = err.0 in cc)
-counts_told (Err f) Settled n m ok err later rose same = absurd (let not_so = err.0 in cc)
-counts_told (Err f) (Collected k) n m ok err later rose same = absurd (let not_so = err.0 in cc)
-counts_told (Err f) (Out o) n m ok err later rose same = absurd (let not_so = err.0 in cc)
-counts_told (Err f) (CutTaken k) n m ok err later rose same = absurd (let not_so = err.0 in cc)
-counts_told (Err f) (Written w) n m ok err later rose same = absurd (let not_so = err.0 in cc)
-counts_told (Err f) (Answered k ys) n m ok err later rose same = absurd (let not_so = err.0 in cc)
-counts_told (Err f) Closed n m ok err later rose same = absurd (let not_so = err.0 in cc)
-counts_told (Ok r) (Refused e b) n m ok err later rose same = absurd (let not_so = ok.1 in cc)
-counts_told (Ok r) (RefusedAll e b) n m ok err later rose same = absurd (let not_so = ok.1 in cc)
-counts_told (Ok r) (Submitted k) n m ok err later rose same = record { later = later; rises = λ device. absurd (let not_so = device in cc); stays = inr (same refl) }
-counts_told (Ok r) (SubmittedAs k) n m ok err later rose same = record { later = later; rises = λ device. absurd (let not_so = device in cc); stays = inr (same refl) }
-counts_told (Ok r) (SubmittedAll k i) n m ok err later rose same = record { later = later; rises = λ device. absurd (let not_so = device in cc); stays = inr (same refl) }
-counts_told (Ok r) (Released k) n m ok err later rose same = record { later = later; rises = λ device. absurd (let not_so = device in cc); stays = inr (same refl) }
-counts_told (Ok r) Settled n m ok err later rose same = record { later = later; rises = λ device. absurd (let not_so = device in cc); stays = inr (same refl) }
-counts_told (Ok r) (Collected k) n m ok err later rose same = record { later = later; rises = λ device. absurd (let not_so = device in cc); stays = inr (same refl) }
-counts_told (Ok r) (Out o) n m ok err later rose same = record { later = later; rises = λ device. absurd (let not_so = device in cc); stays = inr (same refl) }
-counts_told (Ok r) (CutTaken k) n m ok err later rose same = record { later = later; rises = λ device. absurd (let not_so = device in cc); stays = inr (same refl) }
-counts_told (Ok r) (Written w) n m ok err later rose same = record { later = later; rises = λ device. absurd (let not_so = device in cc); stays = inr (same refl) }
-counts_told (Ok r) (Answered k ys) n m ok err later rose same = record { later = later; rises = λ device. absurd (let not_so = device in cc); stays = inr (same refl) }
-counts_told (Ok r) Closed n m ok err later rose same = record { later = later; rises = λ device. absurd (let not_so = device in cc); stays = inr (same refl) }
+-- what did not fail
+counts_none : (n m : ℕ) → n ≤ m → m ≡ n → CountsDevice done (Keeper error.Device) n m
+counts_none n m later same = record { later = later; rises = λ device. absurd (let not_so = device in cc); stays = inr same }
+
+-- a reply, as a feed answers it
+pub counts_of : (reply : Reply) (n m : ℕ) → n ≤ m → (some_failed (reply ∷ []) ≡ true → Rises n m) → (some_failed (reply ∷ []) ≡ false → m ≡ n) → CountsDevice (outcome_of reply) (Keeper error.Device) n m
+counts_of (Refused e b) n m later rose same = counts_error e n m later (λ is. rose (or_false (is_device e) ∙ is)) (λ is. same (or_false (is_device e) ∙ is))
+counts_of (RefusedAll (group.Keeper e) b) n m later rose same = counts_error e n m later (λ is. rose (or_false (is_device e) ∙ is)) (λ is. same (or_false (is_device e) ∙ is))
+counts_of (RefusedAll group.Repeated b) n m later rose same = record { later = later; rises = λ device. absurd (let not_so = device in cc); stays = inr (same refl) }
+counts_of (Submitted k) n m later rose same = counts_none n m later (same refl)
+counts_of (SubmittedAs k) n m later rose same = counts_none n m later (same refl)
+counts_of (SubmittedAll k i) n m later rose same = counts_none n m later (same refl)
+counts_of (Released k) n m later rose same = counts_none n m later (same refl)
+counts_of Settled n m later rose same = counts_none n m later (same refl)
+counts_of (Collected k) n m later rose same = counts_none n m later (same refl)
+counts_of (Out o) n m later rose same = counts_none n m later (same refl)
+counts_of (CutTaken k) n m later rose same = counts_none n m later (same refl)
+counts_of (Written w) n m later rose same = counts_none n m later (same refl)
+counts_of (Answered k ys) n m later rose same = counts_none n m later (same refl)
+counts_of Closed n m later rose same = counts_none n m later (same refl)
 
 -- a worker's refusal is none of the device's
 worker_no_device : (r : PoolError) → pool_fault r ≡ Keeper error.Device → ⊥

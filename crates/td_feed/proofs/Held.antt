@@ -17,11 +17,11 @@ use Rattle.td_keeper.specs.declared.receipt.Receipt.TheVariants.{New, Already}
 use Rattle.td_keeper.specs.Received.{IsReceived}
 use Rattle.td_keeper.specs.Keeping.{Keeping, with_group}
 use Rattle.td_keeper.specs.Halls.{last_passed}
-use Rattle.td_keeper.specs.Driven.{Submits, SubmitsAs, SubmitsAll, Releases, Settles, Collects, HandsOut, Cuts, Asks, Writes, ClosesFree, Obeys}
+use Rattle.td_keeper.specs.Driven.{Submits, SubmitsAs, SubmitsAll, Releases, Settles, Collects, HandsOut, Cuts, Asks, Writes, ClosesFree, Obeys, cutting}
 use Rattle.td_orders.specs.declared.order.Order.{Order}
 use Rattle.td_orders.specs.declared.order.Order.TheVariants as order
 use Rattle.td_feed.specs.Carried.{batch_in, is_resting}
-use Rattle.td_feed.specs.Held.{seen_then, seen_after, then_seen, SameBase, GoesUpTo, KeepsTo, MovesBase, cut_for}
+use Rattle.td_feed.specs.Held.{seen_then, seen_after, then_seen, SameBase, GoesUpTo, KeepsTo, MovesBase}
 use Rattle.td_feed.proofs.Lines.{is_quiet}
 
 -- the greater of two is at most what both are
@@ -73,10 +73,10 @@ seen_append a (o ∷ xs) ys = seen_append (seen_then a o) xs ys
 
 module _ {D : Type 0} where
   pub base_itself : (k : Keeping D) → SameBase k k
-  base_itself k = record { plan = refl; base = refl }
+  base_itself k = record { plan = refl; head = refl; base = refl }
 
   pub base_then : {a b c : Keeping D} → SameBase a b → SameBase b c → SameBase a c
-  base_then first next = record { plan = next.plan ∙ first.plan; base = next.base ∙ first.base }
+  base_then first next = record { plan = next.plan ∙ first.plan; head = next.head ∙ first.head; base = next.base ∙ first.base }
 
   pub up_to_then : (seen : ℕ) {a b c : Keeping D} → GoesUpTo seen a b → GoesUpTo seen b c → GoesUpTo seen a c
   up_to_then seen first next = record { plan = next.plan ∙ first.plan; base = λ last up low. next.base last up (first.base last up low) }
@@ -100,58 +100,43 @@ module _ {D : Type 0} where
   keeps_on None orders a b keeps = tt
   keeps_on (Some seen) orders a b keeps = up_to_further seen (seen_after seen orders) (seen_on seen orders) keeps
 
-  -- after a command
-  pub moves_then : (command : Command) (a b c : Keeping D) → MovesBase command a b → SameBase b c → MovesBase command a c
-  moves_then Cut a b c first next = tt
-  moves_then (CutUpTo epoch) a b c first next = up_to_then epoch first (up_to_same epoch next)
-  moves_then (Submit batch) a b c first next = base_then first next
-  moves_then (SubmitAs request batch) a b c first next = base_then first next
-  moves_then (SubmitAll group) a b c first next = base_then first next
-  moves_then Release a b c first next = base_then first next
-  moves_then Settle a b c first next = base_then first next
-  moves_then Collect a b c first next = base_then first next
-  moves_then NextOut a b c first next = base_then first next
-  moves_then (Answer vertex wanted) a b c first next = base_then first next
-  moves_then WriteCut a b c first next = base_then first next
-  moves_then (CloseFree most) a b c first next = base_then first next
-
   -- a cut is taken up to what was seen
-  pub cut_keeps : (seen : Option ℕ) (a b : Keeping D) → MovesBase (cut_for seen) a b → KeepsTo seen a b
+  pub cut_keeps : (seen : Option ℕ) (a b : Keeping D) → MovesBase (cutting seen) a b → KeepsTo seen a b
   cut_keeps None a b moves = tt
   cut_keeps (Some seen) a b moves = moves
 
-  by : {old other new : Keeping D} → new ≡ other → SameBase old other → SameBase old new
+  pub by : {old other new : Keeping D} → new ≡ other → SameBase old other → SameBase old new
   by {old = old} is same = subst (λ (k : Keeping D). SameBase old k) (sym is) same
 
   by_group : (old : Keeping D) (device : D) (group : List AnySubmitted) → SameBase old (with_group old device group)
-  by_group old device [] = record { plan = refl; base = refl }
-  by_group old device (x ∷ xs) = record { plan = refl; base = refl }
+  by_group old device [] = record { plan = refl; head = refl; base = refl }
+  by_group old device (x ∷ xs) = record { plan = refl; head = refl; base = refl }
 
   -- what a refusal leaves in memory
   aside : {old new : Keeping D} (P Q : Type 0) → (new ≡ old) ⊎ (P × (new ≡ record old { device = new.device })) ⊎ (Q × (new ≡ record old { device = new.device; broken = true })) → SameBase old new
   aside {old = old} P Q is =
       ⊎_elim (λ same. by same (base_itself old))
-      (λ other. ⊎_elim (λ memory. by memory.1 (record { plan = refl; base = refl })) (λ device. by device.1 (record { plan = refl; base = refl })) other) is
+      (λ other. ⊎_elim (λ memory. by memory.1 (record { plan = refl; head = refl; base = refl })) (λ device. by device.1 (record { plan = refl; head = refl; base = refl })) other) is
 
   received : (request : ℕ) (batch : List Entry) (receipt : Receipt) (old new : Keeping D) → IsReceived request batch receipt old new → SameBase old new
-  received request batch (New epoch) old new r = by r.2 (record { plan = refl; base = refl })
+  received request batch (New epoch) old new r = by r.2 (record { plan = refl; head = refl; base = refl })
   received request batch (Already last) old new r = by r.2 (base_itself old)
 
-pub cut_is_quiet : (seen : Option ℕ) → is_quiet (cut_for seen) ≡ true
+pub cut_is_quiet : (seen : Option ℕ) → is_quiet (cutting seen) ≡ true
 cut_is_quiet None = refl
 cut_is_quiet (Some epoch) = refl
 
-pub cut_is_resting : (seen : Option ℕ) → is_resting (cut_for seen) ≡ true
+pub cut_is_resting : (seen : Option ℕ) → is_resting (cutting seen) ≡ true
 cut_is_resting None = refl
 cut_is_resting (Some epoch) = refl
 
-pub cut_submits_none : (seen : Option ℕ) → batch_in (cut_for seen) ≡ []
+pub cut_submits_none : (seen : Option ℕ) → batch_in (cutting seen) ≡ []
 cut_submits_none None = refl
 cut_submits_none (Some epoch) = refl
 
 module _ {D : Type 0} (view : D → DiskView) (answers : Answers) where
   submits : (batch : List Entry) (reply : Reply) (old new : Keeping D) → Submits view answers batch reply old new → SameBase old new
-  submits batch (Submitted n) old new r = by r.submitted (record { plan = refl; base = refl })
+  submits batch (Submitted n) old new r = by r.submitted (record { plan = refl; head = refl; base = refl })
   submits batch (Refused e back) old new r = aside _ _ r.unchanged
   submits batch other old new r = absurd r
 
@@ -176,13 +161,13 @@ module _ {D : Type 0} (view : D → DiskView) (answers : Answers) where
   settles other old new r = absurd r
 
   collects : (reply : Reply) (old new : Keeping D) → Collects view answers reply old new → SameBase old new
-  collects (Collected n) old new r = by r.collected (record { plan = refl; base = refl })
+  collects (Collected n) old new r = by r.collected (record { plan = refl; head = refl; base = refl })
   collects (Refused e b) old new r = ⊎_elim (λ foreign. by foreign.1.same (base_itself old)) (λ memory. by memory.1.same (base_itself old)) r.1
   collects other old new r = absurd r
 
   pub hands_out : (reply : Reply) (old new : Keeping D) → HandsOut view answers reply old new → SameBase old new
   hands_out (Out None) old new r = by r.1 (base_itself old)
-  hands_out (Out (Some out)) old new r = by r.1 (record { plan = refl; base = refl })
+  hands_out (Out (Some out)) old new r = by r.1 (record { plan = refl; head = refl; base = refl })
   hands_out other old new r = absurd r
 
   asks : (vertex : ℕ) (wanted : Wanted) (reply : Reply) (old new : Keeping D) → Asks view answers vertex wanted reply old new → SameBase old new
@@ -193,15 +178,15 @@ module _ {D : Type 0} (view : D → DiskView) (answers : Answers) where
   asks vertex wanted other old new r = absurd r
 
   writes : (reply : Reply) (old new : Keeping D) → Writes view answers reply old new → SameBase old new
-  writes (Written w) old new r = ⊎_elim (λ none. by none.2 (base_itself old)) (λ some. by some.1 (record { plan = refl; base = refl })) r.cut
+  writes (Written w) old new r = ⊎_elim (λ none. by none.2 (base_itself old)) (λ some. by some.1 (record { plan = refl; head = refl; base = refl })) r.cut
   writes (Refused e b) old new r =
-      ⊎_elim (λ many. by many.1 (record { plan = refl; base = refl }))
-      (λ other. ⊎_elim (λ device. by device.1 (record { plan = refl; base = refl })) (λ same. by same (base_itself old)) other) r.unchanged
+      ⊎_elim (λ many. by many.1 (record { plan = refl; head = refl; base = refl }))
+      (λ other. ⊎_elim (λ device. by device.1 (record { plan = refl; head = refl; base = refl })) (λ same. by same (base_itself old)) other) r.unchanged
   writes other old new r = absurd r
 
   closes : (most : ℕ) (reply : Reply) (old new : Keeping D) → ClosesFree view answers most reply old new → SameBase old new
-  closes most Closed old new r = by r.same (record { plan = refl; base = refl })
-  closes most (Refused e b) old new r = ⊎_elim (λ same. by same (base_itself old)) (λ device. by device.1 (record { plan = refl; base = refl })) r.unchanged
+  closes most Closed old new r = by r.same (record { plan = refl; head = refl; base = refl })
+  closes most (Refused e b) old new r = ⊎_elim (λ same. by same (base_itself old)) (λ device. by device.1 (record { plan = refl; head = refl; base = refl })) r.unchanged
   closes most other old new r = absurd r
 
   -- a cut that is taken at no later epoch goes no further
@@ -218,7 +203,7 @@ module _ {D : Type 0} (view : D → DiskView) (answers : Answers) where
   cuts most (Refused e b) old new r =
       up_to_same most
       (⊎_elim (λ foreign. by foreign.1.same (base_itself old))
-      (λ other. ⊎_elim (λ memory. by memory.1.same (base_itself old)) (λ some. by some.collected (record { plan = refl; base = refl })) other) r.1)
+      (λ other. ⊎_elim (λ memory. by memory.1.same (base_itself old)) (λ some. by some.collected (record { plan = refl; head = refl; base = refl })) other) r.1)
   cuts most other old new r = absurd r
 
   -- ONE COMMAND

@@ -13,5 +13,6 @@ pub mod Acknowledged
 pub mod Sessions
 pub mod Moments
 pub mod Causes
+pub mod Stepping
 pub mod Serving
 pub mod Plain

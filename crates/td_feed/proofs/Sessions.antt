@@ -6,19 +6,14 @@ use Rattle.std.proofs.lemmas.Result.{on_ok_weaker, on_err_weaker}
 use Rattle.td_calls.specs.Answers.{Answers}
 use Rattle.td_disk.specs.Disk.{DiskView}
 use Rattle.td_journal.specs.declared.submitted.Submitted.{Submitted}
-use Rattle.td_machine.specs.State.{HallState}
-use Rattle.td_machine.specs.Active.{unpassed}
 use Rattle.td_console.specs.Refusals.{keeper_fault}
 use Rattle.td_store.specs.declared.standing.error.KeeperError.{KeeperError}
 use Rattle.td_store.specs.declared.standing.error.KeeperError.TheVariants as error
-use Rattle.td_store.specs.standing.Standing.{last_epoch}
 use Rattle.td_keeper.specs.declared.command.Command.{Command}
-use Rattle.td_keeper.specs.declared.command.Command.TheVariants.{Release, Settle, Collect, Answer}
+use Rattle.td_keeper.specs.declared.command.Command.TheVariants.{Answer}
 use Rattle.td_keeper.specs.declared.command.Reply.{Reply}
-use Rattle.td_keeper.specs.declared.command.Reply.TheVariants.{Submitted as AsSubmitted, SubmittedAs, SubmittedAll, Released, Settled, Collected, Out, CutTaken, Answered, Written, Closed, Refused, RefusedAll}
-use Rattle.td_keeper.specs.Keeping.{Keeping, since_base}
+use Rattle.td_keeper.specs.Keeping.{Keeping}
 use Rattle.td_disk.specs.Calls.{KeepsDevice}
-use Rattle.td_keeper.specs.Driven.{ComesOf}
 use Rattle.td_pool.specs.declared.error.PoolError.{PoolError}
 use Rattle.td_console.specs.declared.faults.Fault.{Fault}
 use Rattle.std.specs.Io.KnownBytes.{Appends}
@@ -308,54 +303,3 @@ module _ {D E : Type 0} {view : D → DiskView} {answers : Answers} {marks : Boo
   err_fed P (Ok d) done none came left said copied = absurd none
   err_fed P (Err f) done holds came left said copied =
       record { sound = tt; fed = record { done = done; came = came; fed = record { carried = tt; left = left; said = said }; copied = copied } }
-
-module _ {D : Type 0} {view : D → DiskView} {answers : Answers} where
-  -- a hall of its own was released into: it has all batches
-  pub all_released : {a b : Keeping D} (r : Reply) (S T : HallState) → IsObeyed view answers Release r a b → ComesOf Release r a S b T → T.batches ≡ since_base b
-  all_released (Refused e back) S T released comes = absurd (let no : true ≡ false = released.done in cc)
-  all_released (RefusedAll e back) S T released comes = absurd released.obeyed
-  all_released (AsSubmitted n) S T released comes = absurd released.obeyed
-  all_released (SubmittedAs n) S T released comes = absurd released.obeyed
-  all_released (SubmittedAll n m) S T released comes = absurd released.obeyed
-  all_released (Released n) S T released comes = comes
-  all_released Settled S T released comes = absurd released.obeyed
-  all_released (Collected n) S T released comes = absurd released.obeyed
-  all_released (Out o) S T released comes = absurd released.obeyed
-  all_released (CutTaken n) S T released comes = absurd released.obeyed
-  all_released (Written w) S T released comes = absurd released.obeyed
-  all_released (Answered m ys) S T released comes = absurd released.obeyed
-  all_released Closed S T released comes = absurd released.obeyed
-
-  -- it was settled, and collected: all is
-  all_collected : {a b : Keeping D} (r : Reply) (S T : HallState) → S.batches ≡ since_base a → unpassed S ≡ None → IsObeyed view answers Collect r a b → ComesOf Collect r a S b T
-      → b.collected ≡ last_epoch b.standing
-  all_collected (Refused e back) S T all passed collected comes = absurd (let no : true ≡ false = collected.done in cc)
-  all_collected (RefusedAll e back) S T all passed collected comes = absurd collected.obeyed
-  all_collected (AsSubmitted n) S T all passed collected comes = absurd collected.obeyed
-  all_collected (SubmittedAs n) S T all passed collected comes = absurd collected.obeyed
-  all_collected (SubmittedAll n m) S T all passed collected comes = absurd collected.obeyed
-  all_collected (Released n) S T all passed collected comes = absurd collected.obeyed
-  all_collected Settled S T all passed collected comes = absurd collected.obeyed
-  all_collected (Collected n) S T all passed collected comes = comes (record { all = all; passed = passed })
-  all_collected (Out o) S T all passed collected comes = absurd collected.obeyed
-  all_collected (CutTaken n) S T all passed collected comes = absurd collected.obeyed
-  all_collected (Written w) S T all passed collected comes = absurd collected.obeyed
-  all_collected (Answered m ys) S T all passed collected comes = absurd collected.obeyed
-  all_collected Closed S T all passed collected comes = absurd collected.obeyed
-
-  pub to_the_end : {a b c : Keeping D} (r s : Reply) (S T U : HallState) → S.batches ≡ since_base a → IsObeyed view answers Settle r a b → ComesOf Settle r a S b T
-      → IsObeyed view answers Collect s b c → ComesOf Collect s b T c U → c.collected ≡ last_epoch c.standing
-  to_the_end (Refused e back) s S T U all settled passed collected comes = absurd (let no : true ≡ false = settled.done in cc)
-  to_the_end (RefusedAll e back) s S T U all settled passed collected comes = absurd settled.obeyed
-  to_the_end (AsSubmitted n) s S T U all settled passed collected comes = absurd settled.obeyed
-  to_the_end (SubmittedAs n) s S T U all settled passed collected comes = absurd settled.obeyed
-  to_the_end (SubmittedAll n m) s S T U all settled passed collected comes = absurd settled.obeyed
-  to_the_end (Released n) s S T U all settled passed collected comes = absurd settled.obeyed
-  to_the_end Settled s S T U all settled passed collected comes =
-      all_collected s T U (passed.0 ∙ (all ∙ ap (λ (k : Keeping D). since_base k) (sym settled.obeyed.same))) passed.1 collected comes
-  to_the_end (Collected n) s S T U all settled passed collected comes = absurd settled.obeyed
-  to_the_end (Out o) s S T U all settled passed collected comes = absurd settled.obeyed
-  to_the_end (CutTaken n) s S T U all settled passed collected comes = absurd settled.obeyed
-  to_the_end (Written w) s S T U all settled passed collected comes = absurd settled.obeyed
-  to_the_end (Answered m ys) s S T U all settled passed collected comes = absurd settled.obeyed
-  to_the_end Closed s S T U all settled passed collected comes = absurd settled.obeyed

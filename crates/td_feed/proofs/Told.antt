@@ -62,15 +62,6 @@ never false false true false false true g rises is = absurd cc
 never false false true false false false true rises is = absurd cc
 never false false true false false false false rises is = absurd (let no : false ≡ true = ap is_there is in cc)
 
--- what holds of a reply, or of a refusal
-pub ok_of : {E : Type 0} (result : Result Reply E) (reply : Reply) (P : Reply → Type 0) → IfOk result (λ r. (r ≡ reply) × (is_refused reply ≡ false)) → (is_refused reply ≡ false → P reply) → IfOk result P
-ok_of (Ok r) reply P is holds = subst P (sym is.0) (holds is.1)
-ok_of (Err e) reply P is holds = tt
-
-pub err_of : {E : Type 0} (result : Result Reply E) (reply : Reply) (P F : E → Type 0) → IfErr result (λ f. (is_refused reply ≡ true) × F f) → ((f : E) → is_refused reply ≡ true → F f → P f) → IfErr result P
-err_of (Ok r) reply P F is holds = tt
-err_of (Err e) reply P F is holds = holds e is.0 is.1
-
 -- the law, as it is handed in: a command that does not write leaves a keeper's disk, and what it stands for
 abbrev pub Others-rest : {D : Type 0} → (D → DiskView) → Answers → Type 0
 Others-rest {D} view answers = (command : Command) (reply : Reply) (old new : Keeping D) → may_write command ≡ false
@@ -150,6 +141,36 @@ module _ {D : Type 0} (view : D → DiskView) (answers : Answers) where
   rest others (CutUpTo m) r old new obeys whole is = rests_carry old new (others (CutUpTo m) r old new refl obeys) whole
   rest others WriteCut r old new obeys whole is = absurd (let no : false ≡ true = is in cc)
   rest others (CloseFree most) r old new obeys whole is = absurd (let no : false ≡ true = is in cc)
+
+  -- one that does not write submits no group
+  pub rises_none : (k : Keeping D) (c : Command) → may_write c ≡ false → IsRising k c
+  rises_none k (Submit batch) is = tt
+  rises_none k (SubmitAs request batch) is = tt
+  rises_none k (SubmitAll group) is = absurd (let no : true ≡ false = is in cc)
+  rises_none k Release is = tt
+  rises_none k Settle is = tt
+  rises_none k Collect is = tt
+  rises_none k NextOut is = tt
+  rises_none k Cut is = tt
+  rises_none k (Answer v w) is = tt
+  rises_none k (CutUpTo m) is = tt
+  rises_none k WriteCut is = tt
+  rises_none k (CloseFree most) is = tt
+
+  -- what it stands for stays
+  pub rests_stand : Others-rest view answers → (c : Command) (r : Reply) (old new : Keeping D) → Obeys view answers c r old new → is_resting c ≡ true → new.standing ≡ old.standing
+  rests_stand others (Submit batch) r old new obeys is = absurd (let no : false ≡ true = is in cc)
+  rests_stand others (SubmitAs request batch) r old new obeys is = absurd (let no : false ≡ true = is in cc)
+  rests_stand others (SubmitAll group) r old new obeys is = absurd (let no : false ≡ true = is in cc)
+  rests_stand others Release r old new obeys is = (others Release r old new refl obeys).standing
+  rests_stand others Settle r old new obeys is = (others Settle r old new refl obeys).standing
+  rests_stand others Collect r old new obeys is = (others Collect r old new refl obeys).standing
+  rests_stand others NextOut r old new obeys is = (others NextOut r old new refl obeys).standing
+  rests_stand others Cut r old new obeys is = (others Cut r old new refl obeys).standing
+  rests_stand others (Answer v w) r old new obeys is = (others (Answer v w) r old new refl obeys).standing
+  rests_stand others (CutUpTo m) r old new obeys is = (others (CutUpTo m) r old new refl obeys).standing
+  rests_stand others WriteCut r old new obeys is = absurd (let no : false ≡ true = is in cc)
+  rests_stand others (CloseFree most) r old new obeys is = absurd (let no : false ≡ true = is in cc)
 
   carry_received : (request : ℕ) (batch : List Entry) (receipt : Receipt) (old new : Keeping D) → IsReceived request batch receipt old new → old.broken ≡ false → Carries answers old new (received_in request batch receipt)
   carry_received request batch (New epoch) old new r whole = submitted answers old new new.device (submission request batch ∷ []) whole r.2

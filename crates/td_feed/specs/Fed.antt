@@ -1,8 +1,7 @@
 -- What a feed leaves on a disk.
-use Rattle.std.specs.Prelude.{◌⊎◌, ℕ, ◌+◌, ◌≤◌, List, ◌++◌, length, take, Ok}
+use Rattle.std.specs.Prelude.{◌≡◌, ◌⊎◌, ℕ, ◌+◌, ◌<◌, ◌≤◌, List, ◌++◌, length, take, Option, IfSome, Ok}
 use Rattle.td_plan.specs.Lines.{Line}
 use Rattle.td_calls.specs.Answers.{Answers}
-use Rattle.td_core.specs.declared.error.HallError.{HallError}
 use Rattle.td_core.specs.declared.error.HallError.TheVariants as hall
 use Rattle.td_pool.specs.declared.error.PoolError.{PoolError}
 use Rattle.td_pool.specs.declared.error.PoolError.TheVariants as pool
@@ -12,6 +11,8 @@ use Rattle.td_store.specs.declared.standing.error.KeeperError.TheVariants as kee
 use Rattle.td_store.specs.standing.Standing.{Standing}
 use Rattle.td_store.specs.standing.Stops.{Stands}
 use Rattle.td_store.specs.standing.Told.{Told}
+use Rattle.td_store.specs.standing.Tells.{Keeps}
+use Rattle.td_head.specs.declared.head.Head.{Head}
 use Rattle.td_store.specs.standing.Advanced.{states_by}
 use Rattle.td_console.specs.declared.faults.Fault.{Fault}
 use Rattle.td_console.specs.declared.faults.Fault.TheVariants.{NoCall, Memory, Spent, Keeper}
@@ -39,15 +40,18 @@ pub record TellsOnward (answers : Answers) (plan : List Line) (history more : Li
   pub few : count ≤ length more
   pub tells : TellsHistory answers plan (history ++ take count more) image
 
--- the fault for a hall's refusal
-abbrev pub hall_fault : HallError → Fault
-hall_fault hall.Memory = Memory
-hall_fault hall.Spent = Spent
-hall_fault hall.Epochs = Keeper keeper.Epochs
-hall_fault (hall.NotPassed e) = Keeper (keeper.NotPassed e)
-hall_fault hall.Stranger = Keeper keeper.Foreign
-hall_fault hall.Busy = Keeper keeper.Foreign
-hall_fault hall.Closed = Keeper keeper.Foreign
+-- A JOURNAL HAS ROOM for an epoch, and has fewer of them than there may stand up to a cut, where a number is given
+pub record HasRoom (every : Option ℕ) (cells : ℕ) (s : Standing) : Type 0 where
+  pub not_full : length s.submitted < cells
+  pub few : IfSome every (λ most. length s.submitted < most)
+
+-- NO CUT IS DUE OF A DISK: whatever a crash leaves of it tells no epoch after its checkpoint, or few
+pub record IsCutInTime (plan : List Line) (every : Option ℕ) (state : DiskState) : Type 0 where
+  pub head : Head
+  pub side : ℕ
+  pub standing : Standing
+  pub keeps : Keeps plan head side standing state
+  pub in_time : (length standing.submitted ≡ 0) ⊎ HasRoom every head.shape.n standing
 
 -- the fault for a worker's refusal
 abbrev pub pool_fault : PoolError → Fault

@@ -57,9 +57,10 @@ pub record TellsSeen (result : Result (Unit {0}) Fault) (first : Option ℕ) (or
   pub whole : OnOk result (later ≡ [])
   pub told : (after ≡ told_seen before (then_seen first taken)) ⊎ (IsErr result × (after ≡ before))
 
--- a keeper's plan and its base are as they were
+-- a keeper's plan, its head and its base are as they were
 pub record SameBase {D : Type 0} (old new : Keeping D) : Type 0 where
   pub plan : new.plan ≡ old.plan
+  pub head : new.head ≡ old.head
   pub base : new.base ≡ old.base
 
 -- its base goes no further than an epoch
@@ -71,11 +72,6 @@ pub record GoesUpTo {D : Type 0} (epoch : ℕ) (old new : Keeping D) : Type 0 wh
 abbrev pub KeepsTo : {D : Type 0} → Option ℕ → Keeping D → Keeping D → Type 0
 KeepsTo None old new = Unit {0}
 KeepsTo (Some seen) old new = GoesUpTo seen old new
-
--- the cut that is taken: up to what was seen, where outputs are held
-abbrev pub cut_for : Option ℕ → Command
-cut_for None = Cut
-cut_for (Some seen) = CutUpTo seen
 
 -- ONLY A CUT moves the base
 abbrev pub MovesBase : {D : Type 0} → Command → Keeping D → Keeping D → Type 0

@@ -8,4 +8,5 @@ pub mod Session
 pub mod Working
 pub mod Groups
 pub mod Caused
+pub mod Stepping
 pub mod Served

@@ -2,16 +2,19 @@
 use Rattle.std.specs.Prelude.{◌≡◌, ◌⊎◌, ℕ, Bool, false, true, List, [], ◌∷◌, ◌++◌, length, All, Option, Some, None, Result, Ok, OnOk, OnErr, IsErr}
 use Rattle.td_plan.specs.Lines.{Line as PlanLine}
 use Rattle.td_calls.specs.Answers.{Answers}
-use Rattle.td_disk.specs.Disk.{DiskView}
+use Rattle.td_watch.specs.View.{View}
+use Rattle.td_head.specs.declared.head.Head.{Head}
+use Rattle.td_disk.specs.Disk.{DiskView, DiskState}
 use Rattle.td_journal.specs.declared.submitted.Submitted.{Submitted as AnySubmitted}
 use Rattle.td_journal.specs.Numbers.{greatest}
 use Rattle.td_store.specs.declared.standing.error.KeeperError.TheVariants.{Device}
 use Rattle.td_store.specs.standing.Standing.{Standing, last_epoch, last_request}
 use Rattle.td_store.specs.standing.Told.{Told}
+use Rattle.td_store.specs.standing.Tells.{Keeps}
 use Rattle.td_keeper.specs.declared.command.Command.{Command}
 use Rattle.td_keeper.specs.declared.command.Reply.{Reply}
 use Rattle.td_disk.specs.Calls.{KeepsDevice}
-use Rattle.td_keeper.specs.Keeping.{Keeping, EachKeepsTo, EverKeepsTo}
+use Rattle.td_keeper.specs.Keeping.{Keeping, EachKeepsTo, EverKeepsTo, IsSameWatch, HasPublished, words_at}
 use Rattle.td_keeper.specs.Driven.{submitted_in, Obeys, Driven}
 use Rattle.td_console.specs.declared.faults.Fault.{Fault}
 use Rattle.td_console.specs.declared.faults.Fault.TheVariants.{Keeper}
@@ -20,7 +23,7 @@ use Rattle.td_orders.specs.Noted.{Aside, ComeOf, copied_in}
 use Rattle.td_orders.specs.Orders.{submissions, notes_in, new_after}
 use Rattle.td_orders.specs.Scripts.{Script, script_of}
 use Rattle.td_orders.specs.Placed.{placed}
-use Rattle.td_feed.specs.Fed.{EachTellsHistory, EachTellsSome}
+use Rattle.td_feed.specs.Fed.{EachTellsHistory, EachTellsSome, IsCutInTime}
 use Rattle.td_feed.specs.declared.under_way.Pace.{Pace}
 use Rattle.td_feed.specs.declared.under_way.Pace.TheVariants.{Live}
 use Rattle.td_feed.specs.Held.{TellsSeen, first_seen, seen_after}
@@ -107,6 +110,8 @@ module _ {D : Type 0} (view : D → DiskView) (answers : Answers) (marks : Bool)
     pub no_gap : OnOk result ((view disk).lawful → (history : List AnySubmitted) → EachTellsHistory answers plan history (view disk).state
         → (placed how.refuse (length history) (greatest 0 history) (script_by how records plan input)).fault ≡ None)
     pub fed : FeedsDisk result plan alone disk left before after (wanted_of how records plan input)
+    -- by one worker, where no outputs are held, no cut is due after Ok: none stands on the journal, or it has room, and fewer than `cut_every`
+    pub in_time : alone ≡ true → how.hold ≡ false → OnOk result ((view disk).lawful → IsCutInTime plan how.cut_every (view left).state)
     -- where outputs are held, nothing is kept beyond the last epoch that the input says was seen, whatever a crash leaves: so each later
     -- stream writes again the outputs of every epoch after it
     pub held : how.hold ≡ true → (view disk).lawful → (kept : ℕ) → EachKeepsTo plan kept (view disk).state
@@ -115,7 +120,21 @@ module _ {D : Type 0} (view : D → DiskView) (answers : Answers) (marks : Bool)
     pub ever_held : how.hold ≡ true → (view disk).lawful → (kept : ℕ) → EachKeepsTo plan kept (view disk).state
         → EverKeepsTo plan (seen_after kept (script_by how records plan input).orders) (view disk).state.moment (view left).state
 
+-- A WATCH TELLS how far a disk has come: its last epoch, some epoch that was collected, and the one that it keeps
+pub record TellsWatch (plan : List PlanLine) (state : DiskState) (watch : Option View) : Type 0 where
+  pub head : Head
+  pub side : ℕ
+  pub standing : Standing
+  pub keeps : Keeps plan head side standing state
+  pub collected : ℕ
+  pub published : HasPublished watch (words_at standing collected)
+
 module _ {D : Type 0} (view : D → DiskView) where
+  -- A WATCH THAT IS GIVEN STAYS ATTACHED, and comes back; and after Ok it tells how far the disk has come
+  pub record Watches (result : Result (Unit {0}) Fault) (plan : List PlanLine) (disk left : D) (given back : Option View) : Type 0 where
+    pub same : IsSameWatch given back
+    pub told : OnOk result ((view disk).lawful → TellsWatch plan (view left).state back)
+
   -- THE HOST IS TOLD WHAT WAS SEEN, where outputs are held: at first the epoch that the disk keeps, and then that of each line that was
   -- taken, after Ok of all
   pub record SeesDisk (how : StreamOptions) (result : Result (Unit {0}) Fault) (plan : List PlanLine) (disk : D) (before after : Option ℕ) (input : List ℕ) : Type 0 where
@@ -129,6 +148,11 @@ module _ {D : Type 0} (view : D → DiskView) where
   abbrev pub SeesOrNot : StreamOptions → Result (Unit {0}) Fault → List PlanLine → D → Option ℕ → Option ℕ → List ℕ → Type 0
   SeesOrNot how result plan disk before after input =
       (IsErr result × (after ≡ before)) ⊎ SeesDisk how result plan disk before after input
+
+  -- WHAT STANDS AROUND A STREAM is told: its host what was seen, and the watch how far the disk has come
+  pub record TellsAround (how : StreamOptions) (result : Result (Unit {0}) Fault) (plan : List PlanLine) (disk left : D) (before after : Option ℕ) (given back : Option View) (input : List ℕ) : Type 0 where
+    pub seen : SeesOrNot how result plan disk before after input
+    pub watch : Watches result plan disk left given back
 
 module _ {D E : Type 0} (view : D → DiskView) (answers : Answers) (marks : Bool) (new_view : E → DiskView) where
   -- THESE ARE FED, and what is asked for beside them is done: the lines say which copies were made, and these are kept

@@ -2,16 +2,14 @@
 //!
 //! It reads no line while tasks run, so a second thread would only wait in turn. A feed starts its workers in threads whatever
 //! their number.
-ghost use Rattle.std.specs.Prelude.{◌≡◌, None, OnOk};
+ghost use Rattle.std.specs.Prelude.{◌≡◌, true, None};
 ghost use Rattle.td_plan.specs.Blocks.{vertices};
 ghost use Rattle.td_calls.specs.Fits.{first_lack};
-ghost use Rattle.td_feed.specs.Said.{IsAllOut};
 ghost use Rattle.td_feed.specs.Served.{Serves, script_at};
 
-use crate::feeder::{Feeder, Served};
+use crate::feeder::{Feeder, Served, ended_as, is_at_last_number};
 use crate::host::Host;
-use crate::in_turn::{ended_as, obey_each};
-use crate::under_way::is_at_last_number;
+use crate::under_way::Feeding;
 use crate::voice::Voice;
 use std::alloc::Global;
 use std::sync::Wait;
@@ -38,9 +36,8 @@ pub(crate) fn obey_alone<
 >(rt: &R, alloc: Global, feeder: Feeder<D, L, S, W, H>, calls: &C) -> Served<D, L, W, H>
     requires fits { first_lack (C.has_map calls.now) (C.has_group calls.now) (C.has_fold calls.now) (vertices feeder.keeper.plan) ≡ None }
     requires collected { feeder.keeper.collected ≡ feeder.keeper.base }
-    ensures served { Serves D.view L.answers W.marks W.contents W.HasRoom H.New.view H.copies H.seen feeder.pace (S.overlong feeder.orders)
+    ensures { Serves D.view L.answers W.marks W.contents W.HasRoom H.New.view H.copies H.seen true feeder.pace (S.overlong feeder.orders)
         (script_at S.script feeder.keeper feeder.orders) result.ended feeder.keeper result.keeper feeder.writer result.writer feeder.host result.host }
-    ensures all_out { OnOk result.ended (IsAllOut result.keeper) }
 {
     if is_at_last_number(&feeder.keeper) {
         return feeder.refused(Fault::Keeper(KeeperError::Epochs));
@@ -49,10 +46,10 @@ pub(crate) fn obey_alone<
         keeper,
         pace,
         mut orders,
-        mut writer,
+        writer,
         mut host,
     } = feeder;
-    let mut engine = match Engine::open(alloc, keeper, calls, pace.tasks_of_an_epoch()) {
+    let engine = match Engine::open(alloc, keeper, calls, pace.tasks_of_an_epoch()) {
         Ok(engine) => engine,
         Err((_memory, keeper)) => {
             return Served {
@@ -63,15 +60,9 @@ pub(crate) fn obey_alone<
             };
         }
     };
-    let obeyed = obey_each(
-        rt,
-        alloc,
-        &mut engine,
-        pace,
-        &mut orders,
-        &mut writer,
-        &mut host,
-    );
+    let mut feeding = Feeding::new(rt, alloc, engine, writer);
+    let obeyed = feeding.serve(pace, &mut orders, &mut host);
+    let (engine, writer) = feeding.into_parts();
     let (keeper, refusal) = engine.into_keeper();
     Served {
         keeper,

@@ -68,6 +68,7 @@ pub(crate) fn feed<
             disk,
             writer,
             host,
+            watch: None,
             ended: Err(lack_fault(lack)),
         };
     }
@@ -78,6 +79,7 @@ pub(crate) fn feed<
                 disk,
                 writer,
                 host,
+                watch: None,
                 ended: Err(Fault::from(refusal)),
             };
         }
@@ -90,6 +92,7 @@ pub(crate) fn feed<
         disk: served.keeper.into_disk(),
         writer: served.writer,
         host: served.host,
+        watch: None,
         ended: served.ended,
     }
 }

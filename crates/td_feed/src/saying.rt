@@ -3,11 +3,12 @@
 //! A line stands for a reply, and what a reply says is the keeper's contract. So the text does not fix how many outputs a settle
 //! finds, which no contract of threads can. `again Q` has the number of the line, since a producer looks for the answer to what
 //! it sent.
-ghost use Rattle.std.specs.Prelude.{◌≡◌, ◌⊎◌, ◌-◌, ◌++◌, string_bytes, IfOk, IfErr, OnOk};
+ghost use Rattle.std.specs.Prelude.{◌≡◌, ◌⊎◌, ◌-◌, ◌++◌, true, false, string_bytes, IfOk, IfErr, OnOk, Err};
 ghost use Rattle.std.specs.Io.KnownBytes.{Appends};
 ghost use Rattle.td_questions.specs.Lines.{answer_lines};
 ghost use Rattle.td_feed.specs.Caused.{IsOfWriter};
-ghost use Rattle.td_feed.specs.Said.{line_of as line_in, ack_line, ack_lines, answer_text, full_line, copied_line, not_copied_line, out_lines, request_in};
+ghost use Rattle.td_feed.specs.Carried.{is_refused, is_repeated};
+ghost use Rattle.td_feed.specs.Said.{line_of as line_in, fault_in, ack_line, ack_lines, answer_text, full_line, copied_line, not_copied_line, out_lines};
 ghost use Rattle.td_feed.specs.Copied.{why_text};
 
 use crate::host::Why;
@@ -15,41 +16,63 @@ use crate::voice::Voice;
 use std::alloc::Global;
 use std::fmt::Write;
 use td_console::{Fault, Sink, print_epoch, write_answer};
-use td_keeper::{Command, Receipt, Reply};
+use td_keeper::{GroupError, Receipt, Reply};
 use td_orders::FileName;
 use td_questions::{Entry, Wanted, print_answer};
 use td_stamp::EpochOut;
 
-/// Writes the lines of a reply to a command with this request number, where it has some. Refusals: `Memory`, with nothing written,
-/// and `Output`.
+/// Writes the lines of a reply to a command with this request number, where it has some. Refusals: the keeper's, where the reply is one;
+/// `Memory`, with nothing written; and `Output`.
 pub(crate) fn say<W: Voice>(
     alloc: Global,
     request: u64,
-    reply: &Reply,
+    reply: Reply,
     writer: &mut W,
 ) -> Result<(), Fault>
-    ensures said { OnOk result (Appends (W.contents writer.old) (W.contents writer.new) (line_in W.marks request reply.now)) }
-    ensures unsaid { IfErr result (λ f. (f ≡ Fault.Output) ⊎ ((f ≡ Fault.Memory) × (writer.new ≡ writer.old))) }
+    requires new { is_repeated reply ≡ false }
+    ensures refused { is_refused reply ≡ true → (result ≡ Err (fault_in reply)) × (writer.new ≡ writer.old) }
+    ensures said { is_refused reply ≡ false → OnOk result (Appends (W.contents writer.old) (W.contents writer.new) (line_in W.marks request reply)) }
+    ensures unsaid { is_refused reply ≡ false → IfErr result (λ f. (f ≡ Fault.Output) ⊎ ((f ≡ Fault.Memory) × (writer.new ≡ writer.old))) }
     ensures fault { IfErr result (IsOfWriter W.HasRoom) }
 {
-    let line = line_of(alloc, request, reply, writer.is_marking())?;
+    let reply = unless_refused(reply)?;
+    let line = line_of(alloc, request, &reply, writer.is_marking())?;
     write_answer(writer, line.as_str())
 }
 
-/// Writes the lines of an answer to what is wanted of a fold. Refusals: `Memory`, with nothing written, and `Output`.
+/// Writes the lines of an answer to what is wanted of a fold. Refusals: those of `say`.
 pub(crate) fn say_answer<W: Voice>(
     alloc: Global,
     vertex: u8,
     wanted: Wanted,
-    reply: &Reply,
+    reply: Reply,
     writer: &mut W,
 ) -> Result<(), Fault>
-    ensures said { OnOk result (Appends (W.contents writer.old) (W.contents writer.new) (answer_text vertex wanted reply.now)) }
-    ensures unsaid { IfErr result (λ f. (f ≡ Fault.Output) ⊎ ((f ≡ Fault.Memory) × (writer.new ≡ writer.old))) }
+    requires new { is_repeated reply ≡ false }
+    ensures refused { is_refused reply ≡ true → (result ≡ Err (fault_in reply)) × (writer.new ≡ writer.old) }
+    ensures said { is_refused reply ≡ false → OnOk result (Appends (W.contents writer.old) (W.contents writer.new) (answer_text vertex wanted reply)) }
+    ensures unsaid { is_refused reply ≡ false → IfErr result (λ f. (f ≡ Fault.Output) ⊎ ((f ≡ Fault.Memory) × (writer.new ≡ writer.old))) }
     ensures fault { IfErr result (IsOfWriter W.HasRoom) }
 {
-    let lines = answer_text(alloc, vertex, wanted, reply)?;
+    let reply = unless_refused(reply)?;
+    let lines = answer_text(alloc, vertex, wanted, &reply)?;
     write_answer(writer, lines.as_str())
+}
+
+/// A reply that is no refusal; else the fault for that.
+fn unless_refused(reply: Reply) -> Result<Reply, Fault>
+    requires new { is_repeated reply ≡ false }
+    ensures ok { IfOk result (λ r. (r ≡ reply) × (is_refused reply ≡ false)) }
+    ensures refused { IfErr result (λ f. (is_refused reply ≡ true) × (f ≡ fault_in reply)) }
+{
+    match reply {
+        Reply::Refused { error, batch: _ } => Err(Fault::from(error)),
+        Reply::RefusedAll { error, group: _ } => match error {
+            GroupError::Keeper(error) => Err(Fault::from(error)),
+            GroupError::Repeated => unreachable!(),
+        },
+        _ => Ok(reply),
+    }
 }
 
 /// The lines of an answer: `state E V KEY A B` for each entry, or `none E V KEY`, and `asked E`. Refusal: `Memory`.
@@ -122,16 +145,6 @@ pub(crate) fn say_not_copied<W: Sink>(
 {
     let line = format!(in alloc; "not copied {name}: {why}\n")?;
     write_answer(writer, line.as_str())
-}
-
-/// The request number of a command, 0 for none.
-pub(crate) fn request_in(command: &Command) -> u64
-    ensures { result ≡ request_in command.now }
-{
-    match command {
-        Command::SubmitAs(request, _) => *request,
-        _ => 0,
-    }
 }
 
 /// The lines of a reply: `ack E` where an epoch is on the disk, one for each of a group, `again Q` where one with this request number or a greater was there

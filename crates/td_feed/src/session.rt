@@ -6,7 +6,7 @@ ghost use Rattle.td_console.specs.Answer.{lack_fault};
 ghost use Rattle.td_orders.specs.Orders.{orders_of, submitted_by};
 ghost use Rattle.td_feed.specs.Caused.{RefusesFor, IsRefusedFor};
 ghost use Rattle.td_feed.specs.Said.{epochs_alone};
-ghost use Rattle.td_feed.specs.Session.{KeepsDisk, FeedsDisk, StreamsCopying, SeesOrNot};
+ghost use Rattle.td_feed.specs.Session.{KeepsDisk, FeedsDisk, StreamsCopying, TellsAround};
 ghost use Rattle.td_feed.specs.Working.{lack_of};
 
 use crate::feeder::Fed;
@@ -164,14 +164,14 @@ impl<'a, L: Law + Send + Sync, C: Closures<L> + Sync, R: Threads + Wait + Sync> 
         ensures disk { KeepsDisk D.view result.ended disk result.disk }
 
         // A missing closure comes first: nothing was written.
-        ensures lack { IfSome (lack_of C.has_map C.has_group C.has_fold self.now) (λ lack. (result.ended ≡ Err (lack_fault lack)) × (result.disk ≡ disk) × (result.writer ≡ writer) × (result.host ≡ host)) }
+        ensures lack { IfSome (lack_of C.has_map C.has_group C.has_fold self.now) (λ lack. (result.ended ≡ Err (lack_fault lack)) × (result.disk ≡ disk) × (result.writer ≡ writer) × (result.host ≡ host) × (result.watch ≡ watch)) }
 
         // A line's fault is the input's, and a writer with room does not fail.
         ensures fault { IfSome (I.remaining reader) (λ input. IsRefusedFor D.view L.answers W.HasRoom options result.ended self.now.plan disk input) }
 
-        // What the input asks for is fed, by one worker until all outputs went out; and the host is told what was seen.
+        // What the input asks for is fed, by one worker until all outputs went out. The host is told what was seen, and the watch how far the disk has come.
         ensures fed { lack_of C.has_map C.has_group C.has_fold self.now ≡ None → IfSome (I.remaining reader) (λ input. StreamsCopying D.view L.answers W.marks H.New.view options result.ended self.now.plan (self.now.workers == 1) disk result.disk (W.contents writer) (W.contents result.writer) (H.copies host) (H.copies result.host) input) }
-        ensures seen { lack_of C.has_map C.has_group C.has_fold self.now ≡ None → IfSome (I.remaining reader) (λ input. SeesOrNot D.view options result.ended self.now.plan disk (H.seen host) (H.seen result.host) input) }
+        ensures told { lack_of C.has_map C.has_group C.has_fold self.now ≡ None → IfSome (I.remaining reader) (λ input. TellsAround D.view options result.ended self.now.plan disk result.disk (H.seen host) (H.seen result.host) watch result.watch input) }
     {
         stream(
             self.rt,

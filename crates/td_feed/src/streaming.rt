@@ -3,16 +3,17 @@
 //! The caller makes the watch and follows it, so no clock is needed here. Its writer begins with zeros, which are above no
 //! keeper's words. A stream ends at `most` after the put and not before. To refuse an epoch before it is on the disk, its `ack`
 //! would wait for its tasks.
-ghost use Rattle.std.specs.Prelude.{◌≡◌, ◌==◌, ◌≤◌, [], ◌∷◌, Option, option_map, true, false, None, OnOk, IfSome, Err};
+ghost use Rattle.std.specs.Prelude.{◌≡◌, ◌==◌, ◌≤◌, [], ◌∷◌, Option, option_map, true, false, None, IfSome, Err};
 ghost use Rattle.td_plan.specs.Blocks.{vertices};
 ghost use Rattle.td_calls.specs.Fits.{first_lack};
 ghost use Rattle.td_watch.specs.View.{View};
 ghost use Rattle.td_console.specs.Answer.{lack_fault};
 ghost use Rattle.td_orders.specs.Lines.{has_overlong};
 ghost use Rattle.td_feed.specs.Caused.{IsRefusedFor};
-ghost use Rattle.td_feed.specs.Said.{IsAllOut};
 ghost use Rattle.td_feed.specs.Served.{Serves};
-ghost use Rattle.td_feed.specs.Session.{limit_of, pace_of, asked_at, KeepsDisk, StreamsCopying, SeesOrNot};
+ghost use Rattle.td_keeper.specs.Calls.{HoldsStanding};
+ghost use Rattle.td_keeper.specs.Keeping.{IsSameWatch, HasPublished, words_of};
+ghost use Rattle.td_feed.specs.Session.{limit_of, pace_of, asked_at, KeepsDisk, StreamsCopying, TellsAround};
 
 use crate::alone::obey_alone;
 use crate::feeder::{Fed, Feeder, Served};
@@ -27,7 +28,10 @@ use td_calls::{Closures, Law};
 use td_console::{Fault, Source, lack_fault};
 use td_disk::Disk;
 use td_keeper::Keeper;
-use td_keeper::laws::{driven_keeps_to_its_base, each_is_kept, each_keeps_to_its_base};
+use td_keeper::laws::{
+    driven_keeps_to_its_base, driven_publishes, each_disk_holds, each_is_kept,
+    each_keeps_to_its_base,
+};
 use td_orders::Streamed;
 use td_plan::Plan;
 use td_store::standing::laws;
@@ -81,7 +85,7 @@ pub(crate) fn stream<
 
     // A missing closure comes first: nothing was written.
     ensures lack { IfSome (first_lack (C.has_map calls.now) (C.has_group calls.now) (C.has_fold calls.now) (vertices plan.now)) (λ lack.
-        (result.ended ≡ Err (lack_fault lack)) × (result.disk ≡ disk) × (result.writer ≡ writer) × (result.host ≡ host)) }
+        (result.ended ≡ Err (lack_fault lack)) × (result.disk ≡ disk) × (result.writer ≡ writer) × (result.host ≡ host) × (result.watch ≡ watch)) }
 
     // A line's fault is the input's, and a writer with room does not fail.
     ensures fault { IfSome (I.remaining reader) (λ input. IsRefusedFor D.view L.answers W.HasRoom options result.ended plan.now disk input) }
@@ -91,17 +95,19 @@ pub(crate) fn stream<
         → IfSome (I.remaining reader) (λ input. StreamsCopying D.view L.answers W.marks H.New.view options result.ended plan.now (workers == 1) disk result.disk
         (W.contents writer) (W.contents result.writer) (H.copies host) (H.copies result.host) input) }
 
-    // And the host is told what was seen.
-    ensures seen { first_lack (C.has_map calls.now) (C.has_group calls.now) (C.has_fold calls.now) (vertices plan.now) ≡ None
-        → IfSome (I.remaining reader) (λ input. SeesOrNot D.view options result.ended plan.now disk (H.seen host) (H.seen result.host) input) }
+    // The host is told what was seen, and the watch how far the disk has come.
+    ensures told { first_lack (C.has_map calls.now) (C.has_group calls.now) (C.has_fold calls.now) (vertices plan.now) ≡ None
+        → IfSome (I.remaining reader) (λ input. TellsAround D.view options result.ended plan.now disk result.disk (H.seen host) (H.seen result.host) watch result.watch input) }
 {
     laws::told_in_parts();
     driven_keeps_to_its_base::<D, L>();
+    driven_publishes::<D, L>();
     if let Err(lack) = calls.fits(plan) {
         return Fed {
             disk,
             writer,
             host,
+            watch,
             ended: Err(lack_fault(lack)),
         };
     }
@@ -112,6 +118,7 @@ pub(crate) fn stream<
                 disk,
                 writer,
                 host,
+                watch,
                 ended: Err(Fault::from(refusal)),
             };
         }
@@ -122,17 +129,34 @@ pub(crate) fn stream<
         rt, alloc, keeper, plan, workers, options, reader, writer, host, calls,
     );
     each_keeps_to_its_base(&served.keeper);
+    let (disk, watch) = disk_and_watch(served.keeper);
     Fed {
-        disk: served.keeper.into_disk(),
+        disk,
         writer: served.writer,
         host: served.host,
+        watch,
         ended: served.ended,
     }
+}
+
+/// The disk of a keeper, and the writer that is attached to it.
+fn disk_and_watch<D: Disk, L: Law>(keeper: Keeper<D, L>) -> (D, Option<Writer>)
+    ensures disk { result.0 ≡ keeper.device }
+    ensures held { HoldsStanding D.view L.answers keeper }
+    ensures watch { result.1 ≡ keeper.watch }
+{
+    let mut keeper = keeper;
+    each_disk_holds(&keeper);
+    let watch = keeper.detach();
+    (keeper.into_disk(), watch)
 }
 
 /// A keeper with the writer of a watch attached, where there is one, by which it has published how far it has come.
 fn watched<D: Disk, L: Law>(keeper: Keeper<D, L>, watch: Option<Writer>) -> Keeper<D, L>
     requires unpublished { IfSome watch (λ w. w.words ≡ 0 ∷ 0 ∷ 0 ∷ []) }
+    requires unwatched { keeper.watch ≡ None }
+    ensures watch { IsSameWatch watch result.watch }
+    ensures published { HasPublished result.watch (words_of result) }
     ensures device { result.device ≡ keeper.device }
     ensures whole { result.broken ≡ keeper.broken }
     ensures aside { (view : Option View) × (result ≡ record keeper { watch = view }) }
@@ -185,9 +209,8 @@ fn obey<
     requires whole { keeper.broken ≡ false }
     requires fits { first_lack (C.has_map calls.now) (C.has_group calls.now) (C.has_fold calls.now) (vertices keeper.plan) ≡ None }
     requires collected { keeper.collected ≡ keeper.base }
-    ensures served { Serves D.view L.answers W.marks W.contents W.HasRoom H.New.view H.copies H.seen (pace_of options) (has_overlong (I.remaining reader))
+    ensures { Serves D.view L.answers W.marks W.contents W.HasRoom H.New.view H.copies H.seen (workers == 1) (pace_of options) (has_overlong (I.remaining reader))
         (option_map (asked_at options plan.now keeper) (I.remaining reader)) result.ended keeper result.keeper writer result.writer host result.host }
-    ensures all_out { workers ≡ 1 → OnOk result.ended (IsAllOut result.keeper) }
 {
     let pace = Pace::Live {
         every: options.cut_every,

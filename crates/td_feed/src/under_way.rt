@@ -2,41 +2,36 @@
 //!
 //! The `ack` lines of a group are written at once, and a stream's outputs after them. A stream settles after each order and reads
 //! no line meanwhile, so outputs come before the next `ack`.
-ghost use Rattle.std.specs.Prelude.{◌≡◌, ◌⊎◌, ◌↔◌, ◌+◌, ◌^◌, ◌<◌, ◌≤◌, ℕ, List, Bool, Option, Some, [], ◌∷◌, true, false, IsTrue, IfOk, IfErr, IfSome, IfNone, OnOk, string_bytes};
-ghost use Rattle.std.specs.Io.KnownBytes.{Appends};
-ghost use Rattle.td_store.specs.declared.standing.error.KeeperError.TheVariants.{Epochs};
-ghost use Rattle.td_keeper.specs.declared.command.Command.TheVariants.{NextOut};
-ghost use Rattle.td_keeper.specs.declared.command.Reply.TheVariants.{Out};
-ghost use Rattle.td_keeper.specs.Driven.{Driven};
-ghost use Rattle.td_store.specs.standing.Standing.{last_request};
-ghost use Rattle.td_orders.specs.Scripts.{asked_for, notes_for, MayFollow};
-ghost use Rattle.td_feed.specs.Caused.{is_of_keeper, IsOfWriter};
-ghost use Rattle.td_feed.specs.Fed.{hall_fault};
-ghost use Rattle.td_feed.specs.Held.{SameBase, KeepsTo, MovesBase, seen_at, cut_for};
-ghost use Rattle.td_feed.specs.Carried.{batch_in, new_to, IsRising, Carries};
-ghost use Rattle.td_feed.specs.Said.{IsAllOut};
-ghost use Rattle.td_feed.specs.Session.{KeepsDisk, Feeds, FeedsCopying};
-ghost use Rattle.td_keeper.specs.Keeping.{since_base};
+ghost use Rattle.std.specs.Prelude.{◌≡◌, ℕ, Option, Some, [], ◌∷◌, length, true, false, IfOk, IfErr, OnOk, Err};
+ghost use Rattle.td_store.specs.standing.Standing.{last_request, submission};
+ghost use Rattle.td_store.specs.declared.standing.error.KeeperError.TheVariants.{Device};
+ghost use Rattle.td_keeper.specs.declared.command.Command.TheVariants.{SubmitAll};
+ghost use Rattle.td_orders.specs.declared.at_once.Asked.TheVariants.{One};
+ghost use Rattle.td_orders.specs.Noted.Aside.{to_answer};
+ghost use Rattle.td_orders.specs.Scripts.{is_of_reader, MayFollow};
+ghost use Rattle.td_feed.specs.Carried.{new_to, IsRising};
+ghost use Rattle.td_feed.specs.Caused.{IsOfAsked, IsOfWriter};
+ghost use Rattle.td_feed.specs.Held.{SameBase, seen_at, seen_with, told_seen};
+ghost use Rattle.td_feed.specs.Served.{Serves, script_at};
+ghost use Rattle.td_feed.specs.Session.{FeedsNoting};
+ghost use Rattle.td_feed.specs.Stepping.{IsQuiet, IsCheckpointed, HasCut, IsInTime, KeepsPace, Steps, Does};
 
 use crate::copying::copy_aloud;
 use crate::host::Host;
-use crate::saying::{print_out, say_full};
-use crate::telling::{answer_aloud, tell, tell_aloud};
+use crate::room::room_of;
+use crate::saying::{say, say_answer, say_full};
+use crate::settling::{answered, known, release, settle, take_cut};
 use crate::voice::Voice;
 use std::alloc::Global;
+use std::marker::PhantomData;
+use std::sync::Wait;
 use td_calls::Law;
-use td_console::{Fault, Sink, write_answer};
-use td_core::{Hall, HallError};
+use td_console::{Fault, LineFault};
 use td_disk::Disk;
-use td_keeper::laws::each_at_work_is_kept;
-use td_keeper::{Command, Group, Keeper, Obey};
-use td_orders::{Asked, Order, write_note};
-use td_plan::Plan;
-use td_stamp::{EPOCHS_END, EpochOut};
-use td_store::standing::KeeperError;
-
-/// Output lines are written where they have so many bytes.
-const PIECE: usize = 65_536;
+use td_keeper::{Group, Keeper, Obey, Reply};
+use td_orders::{Asked, Asking, Order, write_note};
+use td_questions::Wanted;
+use td_stamp::Batch;
 
 /// When outputs are written, and cuts are taken that no order asks for.
 #[derive(Clone, Copy, Debug, PartialEq, Eq)]
@@ -55,7 +50,7 @@ pub(crate) enum Pace {
 impl Pace {
     /// How many epochs may be submitted at once at this pace: as many as stand on the journal up to the next cut that no order asks
     /// for, if it is known.
-    pub(crate) fn epochs_at_once<D: Disk, L: Law>(self, keeper: &Keeper<D, L>) -> u64 {
+    fn epochs_at_once<D: Disk, L: Law>(self, keeper: &Keeper<D, L>) -> u64 {
         match self {
             Pace::Live {
                 every: Some(every),
@@ -77,7 +72,7 @@ impl Pace {
     }
 
     /// The last epoch that was seen before the first order, where outputs are held: what the disk keeps.
-    pub(crate) fn first_seen<D: Disk, L: Law>(self, keeper: &Keeper<D, L>) -> Option<u64>
+    fn first_seen<D: Disk, L: Law>(self, keeper: &Keeper<D, L>) -> Option<u64>
         ensures { result ≡ seen_at self keeper.now.standing.epoch }
     {
         match self {
@@ -87,323 +82,332 @@ impl Pace {
     }
 }
 
-/// At which pace a feed goes, and how many cells the last cut freed, which may be open yet.
-#[derive(Drop)]
-pub(crate) struct Feeding {
-    pub(crate) pace: Pace,
-    freed: u64,
-}
-
-/// A hall of so many shards at a keeper's checkpoint. Refusals: `Memory`; and `Epochs` of the keeper's, where the checkpoint's epoch is the
-/// last that there can be.
-pub(crate) fn open<D: Disk, L: Law>(
+/// A keeper at work, where its lines go, and how many cells the last cut freed, which may be open yet.
+pub(crate) struct Feeding<'a, D: Disk, L: Law, R, E: Obey<D, L, R>, W> {
+    rt: &'a R,
     alloc: Global,
-    keeper: &Keeper<D, L>,
-    plan: &Plan,
-    workers: u8,
-) -> Result<Hall<L>, Fault>
-    requires some { 1 ≤ workers }
-    requires most { workers ≤ 16 }
-    ensures plan { IfOk result (λ hall. hall.plan ≡ plan.now) }
-    ensures workers { IfOk result (λ hall. hall.workers ≡ workers) }
-    ensures room { IfOk result (λ _. keeper.now.standing.epoch + 1 < 2 ^ 63) }
-    ensures refused { IfErr result (λ f. (f ≡ Fault.Memory) ⊎ ((f ≡ Fault.Keeper Epochs) × (2 ^ 63 ≤ keeper.now.standing.epoch + 1))) }
-{
-    if is_at_last_number(keeper) {
-        return Err(Fault::Keeper(KeeperError::Epochs));
-    }
-    let states = keeper.kept_states()?;
-    Hall::<L>::open(alloc, plan, states, keeper.kept() + 1, workers).map_err(fault_of)
+    engine: E,
+    writer: W,
+    freed: u64,
+    disk: PhantomData<D>,
+    law: PhantomData<L>,
 }
 
-/// Whether the checkpoint's epoch is the last that there can be.
-pub(crate) fn is_at_last_number<D: Disk, L: Law>(keeper: &Keeper<D, L>) -> bool
-    ensures { IsTrue result ↔ (2 ^ 63 ≤ keeper.now.standing.epoch + 1) }
-{
-    EPOCHS_END - 1 <= keeper.kept()
-}
-
-impl Feeding {
+impl<'a, D: Disk, L: Law, R: Wait, E: Obey<D, L, R>, W: Voice> Feeding<'a, D, L, R, E, W> {
     /// Before the first order.
-    pub(crate) fn new(pace: Pace) -> Feeding
-        ensures { result.pace ≡ pace }
+    pub(crate) fn new(rt: &'a R, alloc: Global, engine: E, writer: W) -> Feeding<'a, D, L, R, E, W>
+        ensures engine { result.engine ≡ engine }
+        ensures writer { result.writer ≡ writer }
     {
-        Feeding { pace, freed: 0 }
+        Feeding {
+            rt,
+            alloc,
+            engine,
+            writer,
+            freed: 0,
+            disk: PhantomData,
+            law: PhantomData,
+        }
     }
 
-    /// Does what is asked for. Refusals: those of the keeper and of the writer.
-    fn obey<D: Disk, L: Law, R, E: Obey<D, L, R>, W: Voice, H: Host>(
+    /// The keeper at work, and the writer.
+    pub(crate) fn into_parts(self) -> (E, W)
+        ensures engine { result.0 ≡ self.entry.engine }
+        ensures writer { result.1 ≡ self.entry.writer }
+    {
+        let Feeding {
+            rt: _,
+            alloc: _,
+            engine,
+            writer,
+            freed: _,
+            disk: _,
+            law: _,
+        } = self;
+        (engine, writer)
+    }
+
+    /// Does what is asked for in turn, at a pace, and settles. Refusals: those of what asks for the orders, of the keeper and of the writer.
+    pub(crate) fn serve<S: Asking, H: Host>(
         &mut self,
-        rt: &R,
-        alloc: Global,
-        engine: &mut E,
-        asked: Asked,
-        seen: Option<u64>,
-        writer: &mut W,
+        pace: Pace,
+        orders: &mut S,
         host: &mut H,
     ) -> Result<(), Fault>
-        requires whole { (E.keeping engine.old).broken ≡ false }
-        requires rising { MayFollow (last_request (E.keeping engine.old).standing) (Some asked) }
-        ensures disk { KeepsDisk D.view result (E.keeping engine.old).device (E.keeping engine.new).device }
-        ensures fed { FeedsCopying D.view L.answers W.marks H.New.view result (W.contents writer.old) (W.contents writer.new) (H.copies host.old) (H.copies host.new) (E.keeping engine.old) (E.keeping engine.new) (new_to (E.keeping engine.old) (asked_for asked)) (notes_for asked) }
-        ensures held { KeepsTo seen (E.keeping engine.old) (E.keeping engine.new) }
-        ensures seen { H.seen host.new ≡ H.seen host.old }
-        ensures fault { IfErr result (IsOfWriter W.HasRoom) }
+        requires whole { (E.keeping self.old.engine).broken ≡ false }
+        ensures { Serves D.view L.answers W.marks W.contents W.HasRoom H.New.view H.copies H.seen E.alone pace (S.overlong orders.old) (script_at S.script (E.keeping self.old.engine) orders.old)
+            result (E.keeping self.old.engine) (E.keeping self.new.engine) self.old.writer self.new.writer host.old host.new }
     {
-        match asked {
-            Asked::Epochs(group) => {
-                let command = Command::SubmitAll(Group::from_vec(group));
-                self.submit(rt, alloc, engine, command, writer)
-            }
-            Asked::One(order) => match order {
-                Order::Submit(batch) => {
-                    let command = Command::Submit(batch);
-                    self.submit(rt, alloc, engine, command, writer)
-                }
-                Order::SubmitAs(request, batch) => {
-                    let command = Command::SubmitAs(request, batch);
-                    self.submit(rt, alloc, engine, command, writer)
-                }
-                Order::SubmitAt(_, 0, batch) => {
-                    let command = Command::Submit(batch);
-                    self.submit(rt, alloc, engine, command, writer)
-                }
-                Order::SubmitAt(_, request, batch) => {
-                    let command = Command::SubmitAs(request, batch);
-                    self.submit(rt, alloc, engine, command, writer)
-                }
-                Order::Cut => self.cut(rt, alloc, engine, seen, writer),
-                Order::Say(note) => write_note(alloc, &note, writer),
-                Order::Seen { .. } => Ok(()),
-                Order::Answer { vertex, wanted } => {
-                    answer_aloud(rt, alloc, engine, vertex, wanted, writer)
-                }
-                Order::Copy(copy) => copy_aloud(alloc, engine.keeper(), &copy, host, writer),
-            },
+        let mut seen = pace.first_seen(self.engine.keeper());
+        tell_seen(host, seen);
+        self.engine.allow(open_epochs(self.engine.keeper()));
+        self.keep_pace(pace, seen)?;
+        let rt = self.rt;
+        for _asked in rt.forever() {
+            let keeper = self.engine.keeper();
+            let most = pace.epochs_at_once(keeper);
+            let room = room_of(keeper, most);
+            let Some(asked) = orders.next_asked(self.alloc, &room)? else {
+                return settle(self.rt, self.alloc, &mut self.engine, &mut self.writer);
+            };
+            let next = seen_with(seen, &asked, self.engine.keeper())?;
+            seen = next;
+            tell_seen(host, seen);
+            self.engine.allow(asked.epochs());
+            self.obey(pace, seen, asked, host)?;
         }
-    }
-
-    /// Tells the keeper a command that submits batches, and writes its lines, `ack E` or `again Q`; and releases what the hall lacks, where
-    /// they are new. At a live pace outputs are due at once, and all is released then.
-    fn submit<D: Disk, L: Law, R, E: Obey<D, L, R>, W: Voice>(
-        &mut self,
-        rt: &R,
-        alloc: Global,
-        engine: &mut E,
-        command: Command,
-        writer: &mut W,
-    ) -> Result<(), Fault>
-        requires whole { (E.keeping engine.old).broken ≡ false }
-        requires rising { IsRising (E.keeping engine.old) command }
-        ensures disk { KeepsDisk D.view result (E.keeping engine.old).device (E.keeping engine.new).device }
-        ensures fed { Feeds D.view L.answers W.marks result (W.contents writer.old) (W.contents writer.new) (E.keeping engine.old) (E.keeping engine.new) (new_to (E.keeping engine.old) (batch_in command)) }
-
-        // Nothing is written but for a batch that is on the disk.
-        ensures acknowledged { (writer.new ≡ writer.old) ⊎ Carries L.answers (E.keeping engine.old) (E.keeping engine.new) (new_to (E.keeping engine.old) (batch_in command)) }
-        ensures base { MovesBase command (E.keeping engine.old) (E.keeping engine.new) }
-        ensures fault { IfErr result (IsOfWriter W.HasRoom) }
-    {
-        let before = engine.keeper().last_epoch();
-        tell_aloud(rt, alloc, engine, command, writer)?;
-        if self.is_live() || engine.keeper().last_epoch() == before {
-            return Ok(());
-        }
-        release(rt, engine)
-    }
-
-    /// Whether outputs are due after each order.
-    fn is_live(&self) -> bool {
-        match self.pace {
-            Pace::AtEnd => false,
-            Pace::Live { .. } => true,
-        }
-    }
-
-    /// Does what is due before the first order, at this pace: releases the epochs that the hall lacks, or writes their outputs too.
-    pub(crate) fn begin<D: Disk, L: Law, R, E: Obey<D, L, R>, W: Voice>(
-        &mut self,
-        rt: &R,
-        alloc: Global,
-        engine: &mut E,
-        seen: Option<u64>,
-        writer: &mut W,
-    ) -> Result<(), Fault>
-        requires whole { (E.keeping engine.old).broken ≡ false }
-        ensures disk { KeepsDisk D.view result (E.keeping engine.old).device (E.keeping engine.new).device }
-        ensures fed { Feeds D.view L.answers W.marks result (W.contents writer.old) (W.contents writer.new) (E.keeping engine.old) (E.keeping engine.new) [] }
-        ensures held { KeepsTo seen (E.keeping engine.old) (E.keeping engine.new) }
-        ensures fault { IfErr result (IsOfWriter W.HasRoom) }
-    {
-        match self.pace {
-            Pace::AtEnd => release(rt, engine),
-            Pace::Live { .. } => self.keep_pace(rt, alloc, engine, seen, writer),
-        }
+        unreachable!()
     }
 
     /// Does what is asked for, and what is due after it at this pace.
-    pub(crate) fn obey_at_pace<D: Disk, L: Law, R, E: Obey<D, L, R>, W: Voice, H: Host>(
+    fn obey<H: Host>(
         &mut self,
-        rt: &R,
-        alloc: Global,
-        engine: &mut E,
-        asked: Asked,
+        pace: Pace,
         seen: Option<u64>,
-        writer: &mut W,
+        asked: Asked,
         host: &mut H,
     ) -> Result<(), Fault>
-        requires whole { (E.keeping engine.old).broken ≡ false }
-        requires rising { MayFollow (last_request (E.keeping engine.old).standing) (Some asked) }
-        ensures disk { KeepsDisk D.view result (E.keeping engine.old).device (E.keeping engine.new).device }
-        ensures fed { FeedsCopying D.view L.answers W.marks H.New.view result (W.contents writer.old) (W.contents writer.new) (H.copies host.old) (H.copies host.new) (E.keeping engine.old) (E.keeping engine.new) (new_to (E.keeping engine.old) (asked_for asked)) (notes_for asked) }
-        ensures held { KeepsTo seen (E.keeping engine.old) (E.keeping engine.new) }
+        requires whole { (E.keeping self.old.engine).broken ≡ false }
+        requires rising { MayFollow (last_request (E.keeping self.old.engine).standing) (Some asked) }
+        ensures does { Does D.view L.answers W.marks W.HasRoom H.New.view seen result (W.contents self.old.writer) (W.contents self.new.writer) (H.copies host.old) (H.copies host.new)
+            (E.keeping self.old.engine) (E.keeping self.new.engine) asked }
+        ensures in_time { E.alone ≡ true → OnOk result (KeepsPace pace seen (E.keeping self.new.engine)) }
         ensures seen { H.seen host.new ≡ H.seen host.old }
-        ensures fault { IfErr result (IsOfWriter W.HasRoom) }
     {
-        self.obey(rt, alloc, engine, asked, seen, writer, host)?;
-        self.keep_pace(rt, alloc, engine, seen, writer)
+        match asked {
+            Asked::Epochs(group) => {
+                self.submit_all(Group::from_vec(group))?;
+                self.keep_pace(pace, seen)
+            }
+            Asked::One(order) => {
+                self.obey_one(seen, order, host)?;
+                self.keep_pace(pace, seen)
+            }
+        }
     }
 
-    /// Does what is due after an order, at this pace: nothing; or settles, and cuts where it is time, closes the cells that come next, and
-    /// says where the journal is full all the same.
-    fn keep_pace<D: Disk, L: Law, R, E: Obey<D, L, R>, W: Voice>(
+    /// Does what one order asks for. Refusals: those of the keeper and of the writer.
+    fn obey_one<H: Host>(
         &mut self,
-        rt: &R,
-        alloc: Global,
-        engine: &mut E,
         seen: Option<u64>,
-        writer: &mut W,
+        order: Order,
+        host: &mut H,
     ) -> Result<(), Fault>
-        requires whole { (E.keeping engine.old).broken ≡ false }
-        ensures disk { KeepsDisk D.view result (E.keeping engine.old).device (E.keeping engine.new).device }
-        ensures fed { Feeds D.view L.answers W.marks result (W.contents writer.old) (W.contents writer.new) (E.keeping engine.old) (E.keeping engine.new) [] }
-        ensures held { KeepsTo seen (E.keeping engine.old) (E.keeping engine.new) }
+        requires whole { (E.keeping self.old.engine).broken ≡ false }
+        ensures does { Does D.view L.answers W.marks W.HasRoom H.New.view seen result (W.contents self.old.writer) (W.contents self.new.writer) (H.copies host.old) (H.copies host.new)
+            (E.keeping self.old.engine) (E.keeping self.new.engine) (One order) }
+        ensures seen { H.seen host.new ≡ H.seen host.old }
+    {
+        match order {
+            Order::Submit(batch) => self.submit(batch),
+            Order::SubmitAs(request, batch) => self.submit_as(request, batch),
+            Order::SubmitAt(_, 0, batch) => self.submit(batch),
+            Order::SubmitAt(_, request, batch) => self.submit_as(request, batch),
+            Order::Cut => self.cut(seen),
+            Order::Say(note) => write_note(self.alloc, &note, &mut self.writer),
+            Order::Seen { .. } => Ok(()),
+            Order::Answer { vertex, wanted } => self.answer(vertex, wanted),
+            Order::Copy(copy) => {
+                let keeper = self.engine.keeper();
+                copy_aloud(self.alloc, keeper, &copy, host, &mut self.writer)
+            }
+        }
+    }
+
+    /// Puts a batch on the disk, and writes `ack E`.
+    fn submit(&mut self, batch: Batch) -> Result<(), Fault>
+        requires whole { (E.keeping self.old.engine).broken ≡ false }
+        ensures { (seen : Option ℕ) → Steps D.view L.answers W.marks W.HasRoom seen result (W.contents self.old.writer) (W.contents self.new.writer)
+            (E.keeping self.old.engine) (E.keeping self.new.engine) (new_to (E.keeping self.old.engine) (submission 0 batch ∷ [])) }
+    {
+        known(&self.engine);
+        let reply = Reply::of_submit(self.engine.submit(batch));
+        known(&self.engine);
+        say(self.alloc, 0, reply, &mut self.writer)
+    }
+
+    /// Puts a batch on the disk under a request number, and writes `ack E`, or `again Q` where it was there.
+    fn submit_as(&mut self, request: u64, batch: Batch) -> Result<(), Fault>
+        requires whole { (E.keeping self.old.engine).broken ≡ false }
+        ensures { (seen : Option ℕ) → Steps D.view L.answers W.marks W.HasRoom seen result (W.contents self.old.writer) (W.contents self.new.writer)
+            (E.keeping self.old.engine) (E.keeping self.new.engine) (new_to (E.keeping self.old.engine) (submission request batch ∷ [])) }
+    {
+        known(&self.engine);
+        let reply = Reply::of_submit_as(self.engine.submit_as(request, batch));
+        known(&self.engine);
+        say(self.alloc, request, reply, &mut self.writer)
+    }
+
+    /// Puts a group of batches on the disk, and writes `ack E` of each.
+    fn submit_all(&mut self, group: Group) -> Result<(), Fault>
+        requires whole { (E.keeping self.old.engine).broken ≡ false }
+        requires rising { IsRising (E.keeping self.old.engine) (SubmitAll group) }
+        ensures { (seen : Option ℕ) → Steps D.view L.answers W.marks W.HasRoom seen result (W.contents self.old.writer) (W.contents self.new.writer)
+            (E.keeping self.old.engine) (E.keeping self.new.engine) (new_to (E.keeping self.old.engine) group) }
+    {
+        known(&self.engine);
+        let submitted = self.engine.submit_all(group);
+        known(&self.engine);
+        let reply = Reply::of_submit_all(submitted, self.engine.keeper().last_epoch() + 1);
+        say(self.alloc, 0, reply, &mut self.writer)
+    }
+
+    /// Answers what is wanted of a fold, and writes the lines of the answer.
+    fn answer(&mut self, vertex: u8, wanted: Wanted) -> Result<(), Fault>
+        requires whole { (E.keeping self.old.engine).broken ≡ false }
+        ensures engine { self.new.engine ≡ self.old.engine }
+        ensures steps { FeedsNoting D.view L.answers W.marks result (W.contents self.old.writer) (W.contents self.new.writer) (E.keeping self.old.engine) (E.keeping self.new.engine) [] (to_answer vertex wanted ∷ []) }
+        ensures no_device { result ≡ Err (Fault.Keeper Device) → ⊥ }
         ensures fault { IfErr result (IsOfWriter W.HasRoom) }
     {
-        match self.pace {
-            Pace::AtEnd => Ok(()),
+        known(&self.engine);
+        let reply = Reply::of_answer(self.engine.answer(self.rt, vertex, wanted));
+        say_answer(self.alloc, vertex, wanted, reply, &mut self.writer)
+    }
+
+    /// Does what is due after an order, at this pace: releases the epochs that the hall lacks; or settles, and cuts where it is time, closes
+    /// the cells that come next, and says where the journal is full all the same.
+    fn keep_pace(&mut self, pace: Pace, seen: Option<u64>) -> Result<(), Fault>
+        requires whole { (E.keeping self.old.engine).broken ≡ false }
+        ensures steps { Steps D.view L.answers W.marks W.HasRoom seen result (W.contents self.old.writer) (W.contents self.new.writer) (E.keeping self.old.engine) (E.keeping self.new.engine) [] }
+        ensures in_time { E.alone ≡ true → OnOk result (KeepsPace pace seen (E.keeping self.new.engine)) }
+    {
+        match pace {
+            Pace::AtEnd => release(self.rt, &mut self.engine),
             Pace::Live { every, .. } => {
-                self.cut_or_settle(rt, alloc, engine, every, seen, writer)?;
-                self.close_freed(rt, engine)?;
-                tell_full(alloc, &*engine, seen, writer)
+                self.cut_or_settle(every, seen)?;
+                self.close_freed()?;
+                self.tell_full(seen)
             }
         }
     }
 
     /// Settles, and cuts where it is time.
-    fn cut_or_settle<D: Disk, L: Law, R, E: Obey<D, L, R>, W: Voice>(
-        &mut self,
-        rt: &R,
-        alloc: Global,
-        engine: &mut E,
-        every: Option<u32>,
-        seen: Option<u64>,
-        writer: &mut W,
-    ) -> Result<(), Fault>
-        requires whole { (E.keeping engine.old).broken ≡ false }
-        ensures disk { KeepsDisk D.view result (E.keeping engine.old).device (E.keeping engine.new).device }
-        ensures fed { Feeds D.view L.answers W.marks result (W.contents writer.old) (W.contents writer.new) (E.keeping engine.old) (E.keeping engine.new) [] }
-        ensures held { KeepsTo seen (E.keeping engine.old) (E.keeping engine.new) }
-        ensures fault { IfErr result (IsOfWriter W.HasRoom) }
+    fn cut_or_settle(&mut self, every: Option<u32>, seen: Option<u64>) -> Result<(), Fault>
+        requires whole { (E.keeping self.old.engine).broken ≡ false }
+        ensures steps { Steps D.view L.answers W.marks W.HasRoom seen result (W.contents self.old.writer) (W.contents self.new.writer) (E.keeping self.old.engine) (E.keeping self.new.engine) [] }
+        ensures in_time { E.alone ≡ true → OnOk result (IsInTime every seen (E.keeping self.new.engine)) }
     {
-        if is_cut_due(engine.keeper(), every, seen) {
-            self.cut(rt, alloc, engine, seen, writer)
+        if is_cut_due(self.engine.keeper(), every, seen) {
+            self.cut(seen)
         } else {
-            settle(rt, alloc, engine, writer)
+            settle(self.rt, self.alloc, &mut self.engine, &mut self.writer)
         }
-    }
-
-    /// Closes as many cells as the last cut freed, of those that come next, so that a submit finds its cell closed.
-    fn close_freed<D: Disk, L: Law, R, E: Obey<D, L, R>>(
-        &mut self,
-        rt: &R,
-        engine: &mut E,
-    ) -> Result<(), Fault>
-        requires whole { (E.keeping engine.old).broken ≡ false }
-        ensures disk { KeepsDisk D.view result (E.keeping engine.old).device (E.keeping engine.new).device }
-
-        // Nothing is written, whatever the writer is.
-        ensures fed { (marks : Bool) (held : Option (List ℕ)) → Feeds D.view L.answers marks result held held (E.keeping engine.old) (E.keeping engine.new) [] }
-        ensures base { SameBase (E.keeping engine.old) (E.keeping engine.new) }
-        ensures fault { IfErr result (λ f. is_of_keeper f ≡ true) }
-    {
-        if self.freed == 0 {
-            return Ok(());
-        }
-        tell(rt, engine, Command::CloseFree(self.freed))?;
-        self.freed = 0;
-        Ok(())
     }
 
     /// Settles, cuts, no further than what was seen where outputs are held, writes the cut to the disk, and writes `cut E`. The cells of the
     /// epochs up to it are free from then on. With no epochs since the last cut it writes that one again.
-    fn cut<D: Disk, L: Law, R, E: Obey<D, L, R>, W: Voice>(
-        &mut self,
-        rt: &R,
-        alloc: Global,
-        engine: &mut E,
-        seen: Option<u64>,
-        writer: &mut W,
-    ) -> Result<(), Fault>
-        requires whole { (E.keeping engine.old).broken ≡ false }
-        ensures disk { KeepsDisk D.view result (E.keeping engine.old).device (E.keeping engine.new).device }
-        ensures fed { Feeds D.view L.answers W.marks result (W.contents writer.old) (W.contents writer.new) (E.keeping engine.old) (E.keeping engine.new) [] }
-        ensures written { OnOk result ((E.keeping engine.new).waiting ≡ false) }
-        ensures held { KeepsTo seen (E.keeping engine.old) (E.keeping engine.new) }
-        ensures fault { IfErr result (IsOfWriter W.HasRoom) }
+    fn cut(&mut self, seen: Option<u64>) -> Result<(), Fault>
+        requires whole { (E.keeping self.old.engine).broken ≡ false }
+        ensures steps { Steps D.view L.answers W.marks W.HasRoom seen result (W.contents self.old.writer) (W.contents self.new.writer) (E.keeping self.old.engine) (E.keeping self.new.engine) [] }
+        ensures written { OnOk result ((E.keeping self.new.engine).waiting ≡ false) }
+        ensures cut { E.alone ≡ true → OnOk result (HasCut seen (E.keeping self.new.engine)) }
     {
-        settle(rt, alloc, engine, writer)?;
-        tell(rt, engine, cut_command(seen))?;
-        self.freed = freed_by(engine.keeper(), seen);
-        tell_aloud(rt, alloc, engine, Command::WriteCut, writer)
+        settle(self.rt, self.alloc, &mut self.engine, &mut self.writer)?;
+        take_cut(self.rt, &mut self.engine, seen)?;
+        self.freed = freed_by(self.engine.keeper(), seen);
+        self.write_cut()
+    }
+
+    /// Writes the cut that waits to the disk, and `cut E`.
+    fn write_cut(&mut self) -> Result<(), Fault>
+        requires whole { (E.keeping self.old.engine).broken ≡ false }
+        requires waits { (E.keeping self.old.engine).waiting ≡ true }
+        ensures steps { (seen : Option ℕ) → Steps D.view L.answers W.marks W.HasRoom seen result (W.contents self.old.writer) (W.contents self.new.writer)
+            (E.keeping self.old.engine) (E.keeping self.new.engine) [] }
+        ensures written { OnOk result (IsCheckpointed L.answers (E.keeping self.old.engine) (E.keeping self.new.engine)) }
+    {
+        known(&self.engine);
+        let reply = Reply::of_write_cut(self.engine.write_cut());
+        known(&self.engine);
+        say(self.alloc, 0, reply, &mut self.writer)
+    }
+
+    /// Closes as many cells as the last cut freed, of those that come next, so that a submit finds its cell closed.
+    fn close_freed(&mut self) -> Result<(), Fault>
+        requires whole { (E.keeping self.old.engine).broken ≡ false }
+        ensures writer { self.new.writer ≡ self.old.writer }
+        ensures quiet { IsQuiet D.view L.answers result (E.keeping self.old.engine) (E.keeping self.new.engine) }
+        ensures base { SameBase (E.keeping self.old.engine) (E.keeping self.new.engine) }
+        ensures stands { OnOk result ((E.keeping self.new.engine).standing ≡ (E.keeping self.old.engine).standing) }
+    {
+        if self.freed == 0 {
+            return Ok(());
+        }
+        known(&self.engine);
+        let closed = self.engine.close_free(self.freed);
+        known(&self.engine);
+        self.freed = 0;
+        answered(closed)
+    }
+
+    /// Writes `full E`, where outputs are held and the journal is full up to its epoch E: then nothing more was seen than the disk keeps.
+    fn tell_full(&mut self, seen: Option<u64>) -> Result<(), Fault>
+        requires whole { (E.keeping self.old.engine).broken ≡ false }
+        ensures engine { self.new.engine ≡ self.old.engine }
+        ensures steps { Steps D.view L.answers W.marks W.HasRoom seen result (W.contents self.old.writer) (W.contents self.new.writer) (E.keeping self.old.engine) (E.keeping self.old.engine) [] }
+    {
+        let keeper = self.engine.keeper();
+        if seen.is_none() || !keeper.is_full() {
+            return Ok(());
+        }
+        let last = keeper.last_epoch();
+        say_full(self.alloc, last, &mut self.writer)
     }
 }
 
-/// Releases the epochs that the hall lacks.
-fn release<D: Disk, L: Law, R, E: Obey<D, L, R>>(rt: &R, engine: &mut E) -> Result<(), Fault>
-    requires whole { (E.keeping engine.old).broken ≡ false }
-    ensures disk { KeepsDisk D.view result (E.keeping engine.old).device (E.keeping engine.new).device }
-
-    // Nothing is written, whatever the writer is.
-    ensures fed { (marks : Bool) (held : Option (List ℕ)) → Feeds D.view L.answers marks result held held (E.keeping engine.old) (E.keeping engine.new) [] }
-    ensures rests { Carries L.answers (E.keeping engine.old) (E.keeping engine.new) [] }
-    ensures own { E.alone ≡ true → OnOk result ((E.hall engine.new).batches ≡ since_base (E.keeping engine.new)) }
-    ensures base { SameBase (E.keeping engine.old) (E.keeping engine.new) }
-    ensures fault { IfErr result (λ f. is_of_keeper f ≡ true) }
+/// Tells a host the last epoch that was seen, where outputs are held.
+fn tell_seen<H: Host>(host: &mut H, seen: Option<u64>)
+    ensures seen { H.seen host.new ≡ told_seen (H.seen host.old) seen }
+    ensures copies { H.copies host.new ≡ H.copies host.old }
 {
-    tell(rt, engine, Command::Release)?;
-    Ok(())
-}
-
-/// Lets all epochs pass, and writes the output lines that were not written before. What the disk has stays.
-pub(crate) fn settle<D: Disk, L: Law, R, E: Obey<D, L, R>, W: Voice>(
-    rt: &R,
-    alloc: Global,
-    engine: &mut E,
-    writer: &mut W,
-) -> Result<(), Fault>
-    requires whole { (E.keeping engine.old).broken ≡ false }
-    ensures disk { KeepsDisk D.view result (E.keeping engine.old).device (E.keeping engine.new).device }
-    ensures fed { Feeds D.view L.answers W.marks result (W.contents writer.old) (W.contents writer.new) (E.keeping engine.old) (E.keeping engine.new) [] }
-    ensures rests { Carries L.answers (E.keeping engine.old) (E.keeping engine.new) [] }
-    ensures none_left { OnOk result ((E.keeping engine.new).queue ≡ []) }
-    ensures all_out { E.alone ≡ true → OnOk result (IsAllOut (E.keeping engine.new)) }
-    ensures base { SameBase (E.keeping engine.old) (E.keeping engine.new) }
-    ensures fault { IfErr result (IsOfWriter W.HasRoom) }
-{
-    release(rt, engine)?;
-    tell(rt, engine, Command::Settle)?;
-    tell(rt, engine, Command::Collect)?;
-    write_outs(alloc, engine, writer)
-}
-
-/// The command to cut: no further than what was seen, where outputs are held.
-fn cut_command(seen: Option<u64>) -> Command
-    ensures { result ≡ cut_for seen }
-{
-    match seen {
-        Some(epoch) => Command::CutUpTo(epoch),
-        None => Command::Cut,
+    if let Some(epoch) = seen {
+        host.tell_seen(epoch);
     }
+}
+
+/// The last epoch that was seen, with what is asked for, where outputs are held. Refusals, of a line that says what was seen:
+/// `SeenBefore`, where a later epoch was seen; `NotOut`, where the outputs of all epochs up to it have not been written.
+fn seen_with<D: Disk, L: Law>(
+    seen: Option<u64>,
+    asked: &Asked,
+    keeper: &Keeper<D, L>,
+) -> Result<Option<u64>, Fault>
+    ensures ok { IfOk result (λ next. next ≡ seen_with seen asked.now) }
+    ensures err { IfErr result (λ f. is_of_reader f ≡ true) }
+    ensures fault { IfErr result (IsOfAsked asked.now) }
+{
+    let Some(last) = seen else {
+        return Ok(None);
+    };
+    match asked {
+        Asked::One(Order::Seen { line, epoch }) => {
+            if *epoch < last {
+                return Err(Fault::Line(*line, LineFault::SeenBefore));
+            }
+            if keeper.collected() < *epoch {
+                return Err(Fault::Line(*line, LineFault::NotOut));
+            }
+            Ok(Some(last.max(*epoch)))
+        }
+        Asked::One(
+            Order::Submit(_)
+            | Order::SubmitAs(..)
+            | Order::SubmitAt(..)
+            | Order::Cut
+            | Order::Say(_)
+            | Order::Answer { .. }
+            | Order::Copy(_),
+        )
+        | Asked::Epochs(_) => Ok(Some(last)),
+    }
+}
+
+/// How many epochs stand on the journal.
+fn open_epochs<D: Disk, L: Law>(keeper: &Keeper<D, L>) -> u64
+    ensures { result ≡ length keeper.now.standing.submitted }
+{
+    keeper.last_epoch().saturating_sub(keeper.kept())
 }
 
 /// How many cells the cut frees that was taken last.
@@ -414,32 +418,11 @@ fn freed_by<D: Disk, L: Law>(keeper: &Keeper<D, L>, seen: Option<u64>) -> u64 {
     }
 }
 
-/// Writes `full E`, where outputs are held and the journal is full up to its epoch E: then nothing more was seen than the disk keeps.
-fn tell_full<D: Disk, L: Law, R, E: Obey<D, L, R>, W: Voice>(
-    alloc: Global,
-    engine: &E,
-    seen: Option<u64>,
-    writer: &mut W,
-) -> Result<(), Fault>
-    requires whole { (E.keeping engine.now).broken ≡ false }
-    ensures disk { KeepsDisk D.view result (E.keeping engine.now).device (E.keeping engine.now).device }
-    ensures fed { Feeds D.view L.answers W.marks result (W.contents writer.old) (W.contents writer.new) (E.keeping engine.now) (E.keeping engine.now) [] }
-    ensures fault { IfErr result (IsOfWriter W.HasRoom) }
-{
-    let keeper = engine.keeper();
-    if seen.is_none() || !keeper.is_full() {
-        return Ok(());
-    }
-    say_full(alloc, keeper.last_epoch(), writer)
-}
-
 /// Whether it is time for a cut: so many epochs stand on the journal, or it is full; and where outputs are held, more was seen than the
 /// disk keeps.
-fn is_cut_due<D: Disk, L: Law>(
-    keeper: &Keeper<D, L>,
-    every: Option<u32>,
-    seen: Option<u64>,
-) -> bool {
+fn is_cut_due<D: Disk, L: Law>(keeper: &Keeper<D, L>, every: Option<u32>, seen: Option<u64>) -> bool
+    ensures { result ≡ false → IsInTime every seen keeper.now }
+{
     match seen {
         Some(epoch) if epoch <= keeper.kept() => return false,
         Some(_) | None => {}
@@ -450,83 +433,5 @@ fn is_cut_due<D: Disk, L: Law>(
     match every {
         Some(every) => u64::from(every) <= open_epochs(keeper),
         None => false,
-    }
-}
-
-/// How many epochs stand on the journal.
-pub(crate) fn open_epochs<D: Disk, L: Law>(keeper: &Keeper<D, L>) -> u64 {
-    keeper.last_epoch().saturating_sub(keeper.kept())
-}
-
-/// Writes the output lines of the epochs that were collected, and lets these go.
-fn write_outs<D: Disk, L: Law, R, E: Obey<D, L, R>, W: Voice>(
-    alloc: Global,
-    engine: &mut E,
-    writer: &mut W,
-) -> Result<(), Fault>
-    requires whole { (E.keeping engine.old).broken ≡ false }
-    ensures disk { KeepsDisk D.view result (E.keeping engine.old).device (E.keeping engine.new).device }
-    ensures fed { Feeds D.view L.answers W.marks result (W.contents writer.old) (W.contents writer.new) (E.keeping engine.old) (E.keeping engine.new) [] }
-    ensures rests { Carries L.answers (E.keeping engine.old) (E.keeping engine.new) [] }
-    ensures none_left { OnOk result ((E.keeping engine.new).queue ≡ []) }
-    ensures stands { ((E.keeping engine.new).standing ≡ (E.keeping engine.old).standing) × ((E.keeping engine.new).collected ≡ (E.keeping engine.old).collected) }
-    ensures base { SameBase (E.keeping engine.old) (E.keeping engine.new) }
-    ensures fault { IfErr result (IsOfWriter W.HasRoom) }
-{
-    let marks = writer.is_marking();
-    let mut text = String::new(alloc);
-    while let Some(out) = next_out(engine) {
-        print_out(&mut text, &out, marks)?;
-        write_piece(writer, &mut text)?;
-    }
-    if text.is_empty() {
-        return Ok(());
-    }
-    write_answer(writer, text.as_str())
-}
-
-/// Writes the lines that are held, where they are long enough, and lets them go.
-fn write_piece<W: Sink>(writer: &mut W, text: &mut String) -> Result<(), Fault>
-    ensures ok { OnOk result ((Appends (W.contents writer.old) (W.contents writer.new) (string_bytes text.old) × (string_bytes text.new ≡ []))
-        ⊎ ((writer.new ≡ writer.old) × (text.new ≡ text.old))) }
-    ensures fault { IfErr result (IsOfWriter W.HasRoom) }
-    ensures err { IfErr result (λ f. f ≡ Fault.Output) }
-{
-    if text.len() < PIECE {
-        return Ok(());
-    }
-    write_answer(writer, text.as_str())?;
-    text.clear();
-    Ok(())
-}
-
-/// The outputs of the first epoch of those that were collected; None where there is none.
-fn next_out<D: Disk, L: Law, R, E: Obey<D, L, R>>(engine: &mut E) -> Option<EpochOut>
-    requires whole { (E.keeping engine.old).broken ≡ false }
-    ensures device { (E.keeping engine.new).device ≡ (E.keeping engine.old).device }
-    ensures stands { ((E.keeping engine.new).standing ≡ (E.keeping engine.old).standing) × ((E.keeping engine.new).collected ≡ (E.keeping engine.old).collected) }
-    ensures carried { Carries L.answers (E.keeping engine.old) (E.keeping engine.new) [] }
-    ensures some { IfSome result (λ out. (E.keeping engine.old).queue ≡ out ∷ (E.keeping engine.new).queue) }
-    ensures none { IfNone result ((E.keeping engine.new).queue ≡ []) }
-    ensures driven { Driven D.view L.answers (NextOut ∷ []) (Out result ∷ []) (E.keeping engine.old) (E.keeping engine.new) }
-    ensures base { SameBase (E.keeping engine.old) (E.keeping engine.new) }
-{
-    let out = engine.next_out();
-    each_at_work_is_kept(engine);
-    out
-}
-
-/// The fault for a hall's refusal.
-fn fault_of(error: HallError) -> Fault
-    ensures { result ≡ hall_fault error }
-{
-    match error {
-        HallError::Memory => Fault::Memory,
-        HallError::Spent => Fault::Spent,
-        HallError::Epochs => Fault::Keeper(KeeperError::Epochs),
-        HallError::NotPassed(epoch) => Fault::Keeper(KeeperError::NotPassed(epoch)),
-        HallError::Stranger | HallError::Busy | HallError::Closed => Fault::Keeper(
-            KeeperError::Foreign,
-        ),
     }
 }

@@ -2,27 +2,28 @@
 //!
 //! What it works with moves into the scope of the threads, and comes back with the answer. So a disk, a writer and a host must be ones that
 //! may be dropped.
-ghost use Rattle.std.specs.Prelude.{◌≡◌, ◌≤◌, false, []};
+ghost use Rattle.std.specs.Prelude.{◌≡◌, ◌⊎◌, ◌+◌, ◌^◌, ◌≤◌, false, [], IfOk, IfErr};
 ghost use Rattle.td_machine.specs.Steps.{opened};
+ghost use Rattle.td_store.specs.declared.standing.error.KeeperError.TheVariants.{Epochs};
 ghost use Rattle.td_feed.specs.Served.{Serves, script_at};
 
-use crate::feeder::{Feeder, Served};
+use crate::feeder::{Feeder, Served, ended_as, is_at_last_number};
 use crate::host::Host;
-use crate::in_turn::{ended_as, obey_each};
-use crate::under_way::open;
+use crate::under_way::Feeding;
 use crate::voice::Voice;
 use std::alloc::Global;
 use std::sync::Wait;
 use std::thread::Threads;
 use td_calls::{Closures, Law};
 use td_console::Fault;
+use td_core::Hall;
 use td_disk::Disk;
-use td_keeper::{Command, Keeper, Obey, PoolEngine, Reply};
+use td_keeper::{Group, GroupError, Keeper, Obey, PoolEngine, Receipt};
 use td_orders::Asking;
 use td_plan::Plan;
 use td_pool::{Crew, Pool};
 use td_questions::{Entries, Wanted};
-use td_stamp::EpochOut;
+use td_stamp::{Batch, EpochOut};
 use td_store::standing::KeeperError;
 use td_workers::{Allowance, Beside, beside_workers_within};
 
@@ -47,7 +48,7 @@ pub(crate) fn obey_by_workers<
 ) -> Served<D, L, W, H>
     requires some { 1 ≤ workers }
     requires most { workers ≤ 16 }
-    ensures { Serves D.view L.answers W.marks W.contents W.HasRoom H.New.view H.copies H.seen feeder.pace (S.overlong feeder.orders)
+    ensures { Serves D.view L.answers W.marks W.contents W.HasRoom H.New.view H.copies H.seen false feeder.pace (S.overlong feeder.orders)
         (script_at S.script feeder.keeper feeder.orders) result.ended feeder.keeper result.keeper feeder.writer result.writer feeder.host result.host }
 {
     let hall = match open(alloc, &feeder.keeper, plan, workers) {
@@ -69,6 +70,30 @@ pub(crate) fn obey_by_workers<
     }
 }
 
+/// A hall of so many shards at a keeper's checkpoint. Refusals: `Memory`; and `Epochs` of the keeper's, where the checkpoint's epoch is the
+/// last that there can be.
+fn open<D: Disk, L: Law>(
+    alloc: Global,
+    keeper: &Keeper<D, L>,
+    plan: &Plan,
+    workers: u8,
+) -> Result<Hall<L>, Fault>
+    requires some { 1 ≤ workers }
+    requires most { workers ≤ 16 }
+    ensures plan { IfOk result (λ hall. hall.plan ≡ plan.now) }
+    ensures workers { IfOk result (λ hall. hall.workers ≡ workers) }
+    ensures refused { IfErr result (λ f. (f ≡ Fault.Memory) ⊎ ((f ≡ Fault.Keeper Epochs) × (2 ^ 63 ≤ keeper.now.standing.epoch + 1))) }
+{
+    if is_at_last_number(keeper) {
+        return Err(Fault::Keeper(KeeperError::Epochs));
+    }
+    let states = keeper.kept_states()?;
+    match Hall::open(alloc, plan, states, keeper.kept() + 1, workers) {
+        Ok(hall) => Ok(hall),
+        Err(_memory) => Err(Fault::Memory),
+    }
+}
+
 /// A feed beside workers, and what their tasks may take.
 #[derive(Drop)]
 struct FeederBeside<'a, D: Disk, L: Law, S, W, H> {
@@ -81,7 +106,7 @@ impl<'a, D: Disk, L: Law, S: Asking + Drop, W: Voice, H: Host, R: Wait> Beside<L
     for FeederBeside<'a, D, L, S, W, H> {
     type Answer = Served<D, L, W, H>;
 
-    ghost gives = { λ b served. Serves D.view L.answers W.marks W.contents W.HasRoom H.New.view H.copies H.seen b.feeder.pace (S.overlong b.feeder.orders)
+    ghost gives = { λ b served. Serves D.view L.answers W.marks W.contents W.HasRoom H.New.view H.copies H.seen false b.feeder.pace (S.overlong b.feeder.orders)
         (script_at S.script b.feeder.keeper b.feeder.orders) served.ended b.feeder.keeper served.keeper b.feeder.writer served.writer b.feeder.host served.host };
 
     /// Obeys each order by the keeper at the pool. Nobody else releases, collects or cuts, so nothing is compared.
@@ -95,22 +120,16 @@ impl<'a, D: Disk, L: Law, S: Asking + Drop, W: Voice, H: Host, R: Wait> Beside<L
             keeper,
             pace,
             mut orders,
-            mut writer,
+            writer,
             mut host,
         } = feeder;
         let engine = PoolEngine::new(keeper, pool);
-        let mut at_pool = AtPool { engine, allowance };
-        let ended = obey_each(
-            rt,
-            alloc,
-            &mut at_pool,
-            pace,
-            &mut orders,
-            &mut writer,
-            &mut host,
-        );
+        let at_pool = AtPool { engine, allowance };
+        let mut feeding = Feeding::new(rt, alloc, at_pool, writer);
+        let ended = feeding.serve(pace, &mut orders, &mut host);
+        let (engine, writer) = feeding.into_parts();
         Served {
-            keeper: at_pool.engine.into_keeper(),
+            keeper: engine.engine.into_keeper(),
             writer,
             host,
             ended,
@@ -140,6 +159,18 @@ impl<'a, 'p, D: Disk, K: Crew, L: Law, R: Wait> Obey<D, L, R> for AtPool<'a, 'p,
         self.allowance.allow(epochs);
     }
 
+    fn submit(&mut self, batch: Batch) -> Result<u64, (KeeperError, Batch)> {
+        self.engine.submit(batch)
+    }
+
+    fn submit_as(&mut self, request: u64, batch: Batch) -> Result<Receipt, (KeeperError, Batch)> {
+        self.engine.submit_as(request, batch)
+    }
+
+    fn submit_all(&mut self, group: Group) -> Result<u64, (GroupError, Group)> {
+        self.engine.submit_all(group)
+    }
+
     fn release(&mut self, rt: &R) -> Result<u64, KeeperError> {
         self.engine.release(rt)
     }
@@ -152,12 +183,11 @@ impl<'a, 'p, D: Disk, K: Crew, L: Law, R: Wait> Obey<D, L, R> for AtPool<'a, 'p,
         self.engine.collect(rt)
     }
 
-    fn cut(&mut self, rt: &R) -> Result<u64, KeeperError> {
-        self.engine.cut(rt)
-    }
-
-    fn cut_up_to(&mut self, rt: &R, epoch: u64) -> Result<u64, KeeperError> {
-        self.engine.cut_up_to(rt, epoch)
+    fn cut(&mut self, rt: &R, most: Option<u64>) -> Result<u64, KeeperError> {
+        match most {
+            Some(epoch) => self.engine.cut_up_to(rt, epoch),
+            None => self.engine.cut(rt),
+        }
     }
 
     fn answer(&self, rt: &R, vertex: u8, wanted: Wanted) -> Result<(u64, Entries), KeeperError> {
@@ -168,7 +198,11 @@ impl<'a, 'p, D: Disk, K: Crew, L: Law, R: Wait> Obey<D, L, R> for AtPool<'a, 'p,
         self.engine.next_out()
     }
 
-    fn obey_without_hall(&mut self, command: Command) -> Reply {
-        self.engine.obey_without_hall(command)
+    fn write_cut(&mut self) -> Result<Option<u64>, KeeperError> {
+        self.engine.write_cut()
+    }
+
+    fn close_free(&mut self, most: u64) -> Result<(), KeeperError> {
+        self.engine.close_free(most)
     }
 }

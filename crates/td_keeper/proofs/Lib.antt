@@ -22,3 +22,5 @@ mod Handed
 mod Acknowledged
 mod Answering
 mod Knowing
+mod Obeying
+mod Publishing

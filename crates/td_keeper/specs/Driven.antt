@@ -21,6 +21,7 @@ use Rattle.td_store.specs.declared.standing.error.KeeperError.TheVariants.{Forei
 use Rattle.td_journal.specs.declared.submitted.Submitted.{Submitted as AnySubmitted}
 use Rattle.td_store.specs.standing.Standing.{last_epoch, batches_of, submission}
 use Rattle.td_store.specs.standing.Advanced.{AdvancesSince, SinceAdvance}
+use Rattle.td_keeper.specs.declared.receipt.Receipt.{Receipt}
 use Rattle.td_keeper.specs.declared.receipt.Receipt.TheVariants.{New}
 use Rattle.td_keeper.specs.declared.command.Command.{Command}
 use Rattle.td_keeper.specs.declared.command.Command.TheVariants.{Submit, SubmitAs, SubmitAll, Release, Settle, Collect, NextOut, Cut, CutUpTo, Answer, WriteCut, CloseFree}
@@ -28,14 +29,35 @@ use Rattle.td_keeper.specs.declared.command.Reply.{Reply}
 use Rattle.td_keeper.specs.declared.command.Reply.TheVariants.{Submitted, SubmittedAs, SubmittedAll, Released, Settled, Collected, Out, CutTaken, Answered, Written, Closed, Refused, RefusedAll}
 use Rattle.td_keeper.specs.declared.group.GroupError.{GroupError}
 use Rattle.td_keeper.specs.declared.group.GroupError.TheVariants.{Repeated, Keeper}
-use Rattle.td_keeper.specs.Keeping.{Keeping, IsKeeping, KeepsSince, since_base}
+use Rattle.td_keeper.specs.Keeping.{Keeping, IsKeeping, KeepsSince, IsSameWatch, HasPublished, words_of, since_base}
 use Rattle.td_keeper.specs.Refused.{is_new, submit_refusal, submit_as_refusal, group_refusal, write_refusal, close_refusal, cut_refusal}
 use Rattle.td_keeper.specs.Received.{received_in}
 use Rattle.td_keeper.specs.Calls.{IsSubmitted, IsAnswered, IsAllSubmitted, IsWritten, IsClosed}
 use Rattle.td_keeper.specs.Grouped.{AllOrNone}
-use Rattle.td_keeper.specs.Halls.{IsOwn, IsDone, lacking, with_released, with_collected, with_cut, collected_hall, cut_hall_up_to, cut_place, meant_outs, last_states, LacksLast}
+use Rattle.td_keeper.specs.Halls.{IsOwn, lacking, with_released, with_collected, with_cut, collected_hall, cut_hall_up_to, cut_place, meant_outs, last_states, LacksLast}
 
--- the replies of the calls that work on a pool's hall
+-- the replies of the calls that write, by what each of them answers; of a group up to an end
+abbrev pub submitted : Result ℕ (KeeperError × List Entry) → Reply
+submitted (Ok e) = Submitted e
+submitted (Err back) = Refused back.0 (Some back.1)
+
+abbrev pub submitted_as : Result Receipt (KeeperError × List Entry) → Reply
+submitted_as (Ok receipt) = SubmittedAs receipt
+submitted_as (Err back) = Refused back.0 (Some back.1)
+
+abbrev pub submitted_all : ℕ → Result ℕ (GroupError × List AnySubmitted) → Reply
+submitted_all end (Ok first) = SubmittedAll first end
+submitted_all end (Err back) = RefusedAll back.0 back.1
+
+abbrev pub written : Result (Option ℕ) KeeperError → Reply
+written (Ok w) = Written w
+written (Err error) = Refused error None
+
+abbrev pub closed : Result (Unit {0}) KeeperError → Reply
+closed (Ok done) = Closed
+closed (Err error) = Refused error None
+
+-- the replies of the calls that work on a hall
 abbrev pub released : Result ℕ KeeperError → Reply
 released (Ok n) = Released n
 released (Err error) = Refused error None
@@ -55,6 +77,11 @@ cut (Err error) = Refused error None
 abbrev pub answered : Result (ℕ × StateList) KeeperError → Reply
 answered (Ok a) = Answered a.0 a.1
 answered (Err error) = Refused error None
+
+-- the command to cut, up to an epoch if one is given
+abbrev pub cutting : Option ℕ → Command
+cutting None = Cut
+cutting (Some most) = CutUpTo most
 
 -- whether the device failed
 abbrev pub is_device : KeeperError → Bool
@@ -356,15 +383,6 @@ module _ {D : Type 0} (view : D → DiskView) (answers : Answers) where
     pub images : (view old.device).lawful → old.broken ≡ false
         → SinceAdvance answers old.plan old.standing (submitted_in command reply) (last_epoch old.standing) (view old.device).state.moment (view new.device).state
 
--- WHAT COMES OF A HALL OF ITS OWN at a command, by its reply: a release leaves it with all batches since the base; to settle keeps these and
--- lets each epoch pass; and of a hall that was done all is collected, and is cut
-abbrev pub ComesOf : {D : Type 0} → Command → Reply → Keeping D → HallState → Keeping D → HallState → Type 0
-ComesOf Release (Released n) k S l T = T.batches ≡ since_base l
-ComesOf Settle Settled k S l T = (T.batches ≡ S.batches) × (unpassed T ≡ None)
-ComesOf Collect (Collected n) k S l T = IsDone k S → l.collected ≡ last_epoch l.standing
-ComesOf Cut (CutTaken e) k S l T = IsDone k S → e ≡ last_epoch l.standing
-ComesOf command reply k S l T = Unit {0}
-
 -- A REPLY ACKNOWLEDGES no epoch beyond the n-th
 abbrev pub AcknowledgesUpTo : ℕ → Reply → Type 0
 AcknowledgesUpTo n (Submitted epoch) = epoch ≤ n
@@ -378,3 +396,8 @@ pub record Rests {D : Type 0} (old new : Keeping D) : Type 0 where
   pub plan : new.plan ≡ old.plan
   pub standing : new.standing ≡ old.standing
   pub broken : new.broken ≡ old.broken
+
+-- A WRITER THAT IS ATTACHED STAYS SO; and what it published last is how far the keeper has come, where it was so before
+pub record Publishes {D : Type 0} (old new : Keeping D) : Type 0 where
+  pub same : IsSameWatch old.watch new.watch
+  pub words : HasPublished old.watch (words_of old) → HasPublished new.watch (words_of new)

@@ -1,5 +1,5 @@
 -- What contracts see of a keeper, and what each keeper keeps right.
-use Rattle.std.specs.Prelude.{◌≡◌, ◌⊎◌, ℕ, ◌+◌, ◌-◌, min, ◌^◌, ◌<◌, ◌≤◌, Bool, true, false, List, [], ◌∷◌, length, drop, All, Option, Some, None, Ok}
+use Rattle.std.specs.Prelude.{◌≡◌, ◌⊎◌, ℕ, ◌+◌, ◌-◌, min, ◌^◌, ◌<◌, ◌≤◌, Bool, true, false, List, [], ◌∷◌, length, drop, All, Option, Some, None, option_map, Ok}
 use Rattle.td_stamp.specs.declared.values.Entry.{Entry}
 use Rattle.td_stamp.specs.declared.epoch_out.EpochOut.{EpochOut}
 use Rattle.td_stamp.specs.States.{StateList}
@@ -47,6 +47,15 @@ words_at s collected = last_epoch s ∷ collected ∷ s.epoch ∷ []
 abbrev pub published : Option View → List ℕ → Option View
 published None words = None
 published (Some v) words = Some (view_of v.watch words)
+
+-- and these are what it published last
+abbrev pub HasPublished : Option View → List ℕ → Type 0
+HasPublished None words = Unit {0}
+HasPublished (Some v) words = v.words ≡ words
+
+-- a writer that was attached still is, of the same watch
+abbrev pub IsSameWatch : Option View → Option View → Type 0
+IsSameWatch old new = option_map (λ v. v.watch) new ≡ option_map (λ v. v.watch) old
 
 -- no word of a writer is above these, where one is attached
 abbrev pub IsBelow : Option View → List ℕ → Type 0

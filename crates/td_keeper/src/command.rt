@@ -1,6 +1,6 @@
 //! What a keeper is told to do, and what it replies.
 ghost use Rattle.std.specs.Prelude.{◌≡◌};
-ghost use Rattle.td_keeper.specs.Driven.{released, settled, collected, cut, answered};
+ghost use Rattle.td_keeper.specs.Driven.{submitted, submitted_as, submitted_all, released, settled, collected, cut, answered, written, closed};
 
 use crate::group::{Group, GroupError};
 use crate::receipt::Receipt;
@@ -79,8 +79,44 @@ pub enum Reply {
 }
 
 impl Reply {
+    /// The reply to `Submit`.
+    pub fn of_submit(outcome: Result<u64, (KeeperError, Batch)>) -> Reply
+        ensures { result ≡ submitted outcome }
+    {
+        match outcome {
+            Ok(epoch) => Reply::Submitted(epoch),
+            Err((error, batch)) => Reply::Refused {
+                error,
+                batch: Some(batch),
+            },
+        }
+    }
+
+    /// The reply to `SubmitAs`.
+    pub fn of_submit_as(outcome: Result<Receipt, (KeeperError, Batch)>) -> Reply
+        ensures { result ≡ submitted_as outcome }
+    {
+        match outcome {
+            Ok(receipt) => Reply::SubmittedAs(receipt),
+            Err((error, batch)) => Reply::Refused {
+                error,
+                batch: Some(batch),
+            },
+        }
+    }
+
+    /// The reply to `SubmitAll`, of a group up to, and without, this epoch.
+    pub fn of_submit_all(outcome: Result<u64, (GroupError, Group)>, end: u64) -> Reply
+        ensures { result ≡ submitted_all end outcome }
+    {
+        match outcome {
+            Ok(first) => Reply::SubmittedAll(first, end),
+            Err((error, group)) => Reply::RefusedAll { error, group },
+        }
+    }
+
     /// The reply to `Release`.
-    pub(crate) fn of_release(outcome: Result<u64, KeeperError>) -> Reply
+    pub fn of_release(outcome: Result<u64, KeeperError>) -> Reply
         ensures { result ≡ released outcome }
     {
         match outcome {
@@ -90,7 +126,7 @@ impl Reply {
     }
 
     /// The reply to `Settle`.
-    pub(crate) fn of_settle(outcome: Result<(), KeeperError>) -> Reply
+    pub fn of_settle(outcome: Result<(), KeeperError>) -> Reply
         ensures { result ≡ settled outcome }
     {
         match outcome {
@@ -100,7 +136,7 @@ impl Reply {
     }
 
     /// The reply to `Collect`.
-    pub(crate) fn of_collect(outcome: Result<u64, KeeperError>) -> Reply
+    pub fn of_collect(outcome: Result<u64, KeeperError>) -> Reply
         ensures { result ≡ collected outcome }
     {
         match outcome {
@@ -110,7 +146,7 @@ impl Reply {
     }
 
     /// The reply to `Cut` and to `CutUpTo`.
-    pub(crate) fn of_cut(outcome: Result<u64, KeeperError>) -> Reply
+    pub fn of_cut(outcome: Result<u64, KeeperError>) -> Reply
         ensures { result ≡ cut outcome }
     {
         match outcome {
@@ -120,11 +156,31 @@ impl Reply {
     }
 
     /// The reply to `Answer`.
-    pub(crate) fn of_answer(outcome: Result<(u64, Entries), KeeperError>) -> Reply
+    pub fn of_answer(outcome: Result<(u64, Entries), KeeperError>) -> Reply
         ensures { result ≡ answered outcome }
     {
         match outcome {
             Ok((epoch, entries)) => Reply::Answered { epoch, entries },
+            Err(error) => Reply::Refused { error, batch: None },
+        }
+    }
+
+    /// The reply to `WriteCut`.
+    pub fn of_write_cut(outcome: Result<Option<u64>, KeeperError>) -> Reply
+        ensures { result ≡ written outcome }
+    {
+        match outcome {
+            Ok(epoch) => Reply::Written(epoch),
+            Err(error) => Reply::Refused { error, batch: None },
+        }
+    }
+
+    /// The reply to `CloseFree`.
+    pub fn of_close_free(outcome: Result<(), KeeperError>) -> Reply
+        ensures { result ≡ closed outcome }
+    {
+        match outcome {
+            Ok(()) => Reply::Closed,
             Err(error) => Reply::Refused { error, batch: None },
         }
     }

@@ -1,8 +1,6 @@
 //! A keeper beside the workers of a pool.
 ghost use Rattle.std.specs.Prelude.{◌≡◌, ◌↔◌, ◌≤◌, true, false, IfOk, IfErr};
-ghost use Rattle.td_machine.specs.State.{HallState};
 ghost use Rattle.td_store.specs.standing.Standing.{last_request};
-ghost use Rattle.td_keeper.specs.Halls.{IsOwn};
 ghost use Rattle.td_keeper.specs.Driven.{needs_hall, Obeys, Drives};
 ghost use Rattle.td_store.specs.declared.standing.error.KeeperError.TheVariants.{Memory};
 
@@ -13,7 +11,6 @@ use std::sync::Wait;
 use td_calls::Law;
 use td_disk::Disk;
 use td_pool::{Crew, Pool};
-use td_stamp::Batch;
 use td_store::standing::{KeeperError, laws};
 
 impl<D: Disk, L: Law> Keeper<D, L> {
@@ -78,37 +75,26 @@ impl<D: Disk, L: Law> Keeper<D, L> {
         }
     }
 
-    /// Obeys a command for which it needs no hall, as the call of that name does. A hall that was this keeper's own is so after it.
-    pub fn obey_without_hall(&mut self, command: Command) -> Reply
+    /// Obeys a command for which it needs no hall, as the call of that name does.
+    fn obey_without_hall(&mut self, command: Command) -> Reply
         requires { needs_hall command ≡ false }
         ensures obeyed { Obeys D.view L.answers command result self.old self.new }
         ensures size { (D.view self.new.device).capacity ≡ (D.view self.old.device).capacity }
         ensures lawful { (D.view self.old.device).lawful ↔ (D.view self.new.device).lawful }
-        ensures own { (S : HallState) → IsOwn self.old S → IsOwn self.new S }
     {
         each_is_kept(self);
         match command {
-            Command::Submit(batch) => match self.submit(batch) {
-                Ok(epoch) => Reply::Submitted(epoch),
-                Err((error, batch)) => refused(error, Some(batch)),
-            },
-            Command::SubmitAs(request, batch) => match self.submit_as(request, batch) {
-                Ok(receipt) => Reply::SubmittedAs(receipt),
-                Err((error, batch)) => refused(error, Some(batch)),
-            },
-            Command::SubmitAll(group) => match self.submit_all(group) {
-                Ok(first) => Reply::SubmittedAll(first, self.last_epoch() + 1),
-                Err((error, group)) => Reply::RefusedAll { error, group },
-            },
+            Command::Submit(batch) => Reply::of_submit(self.submit(batch)),
+            Command::SubmitAs(request, batch) => {
+                Reply::of_submit_as(self.submit_as(request, batch))
+            }
+            Command::SubmitAll(group) => {
+                let submitted = self.submit_all(group);
+                Reply::of_submit_all(submitted, self.last_epoch() + 1)
+            }
             Command::NextOut => Reply::Out(self.next_out()),
-            Command::WriteCut => match self.write_cut() {
-                Ok(epoch) => Reply::Written(epoch),
-                Err(error) => refused(error, None),
-            },
-            Command::CloseFree(most) => match self.close_free(most) {
-                Ok(()) => Reply::Closed,
-                Err(error) => refused(error, None),
-            },
+            Command::WriteCut => Reply::of_write_cut(self.write_cut()),
+            Command::CloseFree(most) => Reply::of_close_free(self.close_free(most)),
             Command::Release
             | Command::Settle
             | Command::Collect
@@ -117,11 +103,4 @@ impl<D: Disk, L: Law> Keeper<D, L> {
             | Command::Answer(..) => unreachable!(),
         }
     }
-}
-
-/// A refusal, with the batch that was to be submitted.
-fn refused(error: KeeperError, batch: Option<Batch>) -> Reply
-    ensures { result ≡ Reply.Refused error batch }
-{
-    Reply::Refused { error, batch }
 }

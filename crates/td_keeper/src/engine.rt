@@ -7,10 +7,11 @@ ghost use Rattle.td_core.specs.Drained.{IsKept};
 ghost use Rattle.td_keeper.specs.Driven.{Releases, Settles, Collects, Cuts, Asks, released, settled, collected, cut, answered};
 ghost use Rattle.td_store.specs.declared.standing.error.KeeperError.TheVariants.{Memory};
 
-use crate::command::{Command, Reply};
+use crate::group::{Group, GroupError};
 use crate::keeper::Keeper;
 use crate::laws::each_is_kept;
 use crate::obey::Obey;
+use crate::receipt::Receipt;
 use std::alloc::Global;
 use std::marker::Model;
 use td_batch::laws::run_joins;
@@ -18,7 +19,7 @@ use td_calls::{Closures, Law};
 use td_core::{Hall, HallError};
 use td_disk::Disk;
 use td_questions::{Entries, Wanted};
-use td_stamp::EpochOut;
+use td_stamp::{Batch, EpochOut};
 use td_store::standing::KeeperError;
 
 /// A keeper with a hall of its own, and the closures by which the hall's tasks are run, in whatever thread calls it. Contracts see
@@ -133,6 +134,21 @@ impl<'a, D: Disk, L: Law, C: Closures<L>, R> Obey<D, L, R> for Engine<'a, D, L, 
         self.up_to = self.hall.taken().saturating_add(more);
     }
 
+    fn submit(&mut self, batch: Batch) -> Result<u64, (KeeperError, Batch)> {
+        each_is_kept(&self.keeper);
+        self.keeper.submit(batch)
+    }
+
+    fn submit_as(&mut self, request: u64, batch: Batch) -> Result<Receipt, (KeeperError, Batch)> {
+        each_is_kept(&self.keeper);
+        self.keeper.submit_as(request, batch)
+    }
+
+    fn submit_all(&mut self, group: Group) -> Result<u64, (GroupError, Group)> {
+        each_is_kept(&self.keeper);
+        self.keeper.submit_all(group)
+    }
+
     fn release(&mut self, _rt: &R) -> Result<u64, KeeperError> {
         td_core::laws::each_is_sound(&self.hall);
         self.keeper.release_own(&mut self.hall)
@@ -154,18 +170,11 @@ impl<'a, D: Disk, L: Law, C: Closures<L>, R> Obey<D, L, R> for Engine<'a, D, L, 
         self.keeper.bring_in(&mut self.hall)
     }
 
-    fn cut(&mut self, _rt: &R) -> Result<u64, KeeperError> {
+    fn cut(&mut self, _rt: &R, most: Option<u64>) -> Result<u64, KeeperError> {
         run_joins::<L>();
         each_is_kept(&self.keeper);
         td_core::laws::each_is_sound(&self.hall);
-        self.keeper.cut_own(&mut self.hall, None)
-    }
-
-    fn cut_up_to(&mut self, _rt: &R, epoch: u64) -> Result<u64, KeeperError> {
-        run_joins::<L>();
-        each_is_kept(&self.keeper);
-        td_core::laws::each_is_sound(&self.hall);
-        self.keeper.cut_own(&mut self.hall, Some(epoch))
+        self.keeper.cut_own(&mut self.hall, most)
     }
 
     fn answer(&self, _rt: &R, vertex: u8, wanted: Wanted) -> Result<(u64, Entries), KeeperError> {
@@ -177,8 +186,14 @@ impl<'a, D: Disk, L: Law, C: Closures<L>, R> Obey<D, L, R> for Engine<'a, D, L, 
         self.keeper.next_out()
     }
 
-    fn obey_without_hall(&mut self, command: Command) -> Reply {
-        self.keeper.obey_without_hall(command)
+    fn write_cut(&mut self) -> Result<Option<u64>, KeeperError> {
+        each_is_kept(&self.keeper);
+        self.keeper.write_cut()
+    }
+
+    fn close_free(&mut self, most: u64) -> Result<(), KeeperError> {
+        each_is_kept(&self.keeper);
+        self.keeper.close_free(most)
     }
 }
 

@@ -12,7 +12,7 @@ ghost use Rattle.td_keeper.specs.declared.command.Command.{Command as AnyCommand
 ghost use Rattle.td_keeper.specs.declared.command.Reply.{Reply as AnyReply};
 ghost use Rattle.td_keeper.specs.Acknowledged.{acknowledged_by, outs_of, HandsOutUpTo, Acknowledges, TellsWork};
 ghost use Rattle.td_keeper.specs.Answering.{AllOfHistory};
-ghost use Rattle.td_keeper.specs.Driven.{may_write, submitted_by, handed_out, HandsOn, Advances, AcknowledgesUpTo, Obeys, Driven, Rests};
+ghost use Rattle.td_keeper.specs.Driven.{may_write, submitted_by, handed_out, HandsOn, Advances, AcknowledgesUpTo, Obeys, Driven, IsTold, Publishes, Rests};
 
 use crate::keeper::Keeper;
 use crate::obey::Obey;
@@ -75,6 +75,18 @@ pub fn each_has_requests<D: Disk, L: Law>(keeper: &Keeper<D, L>)
     each_disk_holds(keeper);
 }
 
+/// ONE COMMAND AND ITS REPLY, with all that is known of the two (`IsTold`), of a keeper before and after it. So what holds of the commands of
+/// `Keeper::drive` holds of the calls of `Obey`, one after another.
+pub fn each_is_told<D: Disk, L: Law>()
+    ensures { (command : AnyCommand) (reply : AnyReply) (old new : Keeping D) → IsKeeping old L.answers → HoldsStanding D.view L.answers old → IsKeeping new L.answers
+        → Obeys D.view L.answers command reply old new
+        → IsTold D.view L.answers command reply old new }
+{
+    laws::told_in_parts();
+    laws::standings_advance::<L>();
+    laws::advances_join::<L>();
+}
+
 /// A command that does not write leaves the disk, and what a keeper stands for, as it was, whatever the reply is.
 pub fn others_rest<D: Disk, L: Law>()
     ensures { (command : AnyCommand) (reply : AnyReply) (old new : Keeping D) → may_write command ≡ false
@@ -122,6 +134,11 @@ pub fn driven_keeps_to_its_base<D: Disk, L: Law>()
 {
     td_machine::laws::reached::<L>();
 }
+
+/// A WATCH STAYS ATTACHED through commands; and what its writer published last is how far the keeper has come, where it was so before them.
+pub fn driven_publishes<D: Disk, L: Law>()
+    ensures { (commands : List AnyCommand) (replies : List AnyReply) (old new : Keeping D) → Driven D.view L.answers commands replies old new → Publishes old new }
+{}
 
 /// WHAT IS ACKNOWLEDGED IS THERE, batch by batch. What replies acknowledge are the epochs that follow the keeper's last, in the order
 /// of the commands; a keeper that stood for a history stands for that and these, each at the place that its reply told.

@@ -37,7 +37,7 @@ pub use command::{Command, Reply};
 pub use engine::Engine;
 pub use group::{Group, GroupError};
 pub use keeper::Keeper;
-pub use obey::{Obey, tell_one};
+pub use obey::Obey;
 pub use pool_engine::PoolEngine;
 pub use receipt::Receipt;
 pub use td_store::standing::{KeeperError, Part};

@@ -1,15 +1,16 @@
 //! A keeper and the hall of a pool, as one value.
-ghost use Rattle.std.specs.Prelude.{◌≡◌, ◌↔◌, ◌⊎◌, ◌≤◌, false, true, [], ◌∷◌, Some, None, Ok, IsTrue, IfOk, IfErr, OnOk};
+ghost use Rattle.std.specs.Prelude.{◌≡◌, ◌↔◌, ◌+◌, ◌≤◌, false, [], ◌∷◌, Some, None, Ok, IsTrue, IfErr, OnOk};
 ghost use Rattle.td_disk.specs.Calls.{KeepsDevice};
-ghost use Rattle.td_store.specs.standing.Standing.{last_request, submission};
-ghost use Rattle.td_store.specs.declared.standing.error.KeeperError.TheVariants.{Memory, Device, Broken, OldVersion};
-ghost use Rattle.td_keeper.specs.Calls.{IsAnswered, IsRefused, IsWritten, IsUnwritten, LeavesAtCrash, outcome};
-ghost use Rattle.td_keeper.specs.Refused.{is_new, submit_as_refusal};
+ghost use Rattle.td_store.specs.standing.Standing.{last_epoch, last_request, submission};
+ghost use Rattle.td_store.specs.declared.standing.error.KeeperError.TheVariants.{Device};
+ghost use Rattle.td_keeper.specs.Calls.{LeavesAtCrash, outcome};
 ghost use Rattle.td_keeper.specs.Halls.{IsOwn};
+ghost use Rattle.td_keeper.specs.declared.group.GroupError.TheVariants.{Keeper as ByKeeper};
+ghost use Rattle.td_keeper.specs.declared.command.Command.TheVariants.{Submit, SubmitAs, SubmitAll, WriteCut, CloseFree};
 ghost use Rattle.td_keeper.specs.declared.command.Reply.TheVariants.{Out};
-ghost use Rattle.td_keeper.specs.Driven.{needs_hall, Releases, Settles, Collects, HandsOut, Cuts, Asks, Obeys, released, settled, collected, cut, answered};
+ghost use Rattle.td_keeper.specs.Driven.{Releases, Settles, Collects, HandsOut, Cuts, Asks, Obeys, submitted, submitted_as, submitted_all, released, settled, collected, cut, answered, written, closed};
 
-use crate::command::{Command, Reply};
+use crate::group::{Group, GroupError};
 use crate::keeper::Keeper;
 use crate::laws::each_is_kept;
 use crate::receipt::Receipt;
@@ -147,11 +148,18 @@ impl<'p, D: Disk, K: Crew, L: Law> PoolEngine<'p, D, K, L> {
         self.keeper.next_out()
     }
 
+    /// Puts a batch on the journal, as `Keeper::submit`, whose refusals it has.
+    pub fn submit(&mut self, batch: Batch) -> Result<u64, (KeeperError, Batch)>
+        ensures submitted { Obeys D.view L.answers (Submit batch) (submitted result) self.old self.new }
+        ensures device { KeepsDevice D.view Device (outcome result) self.old.device self.new.device }
+    {
+        each_is_kept(&self.keeper);
+        self.keeper.submit(batch)
+    }
+
     /// Puts a batch on the journal under a request number, as `Keeper::submit_as`, whose refusals it has.
     pub fn submit_as(&mut self, request: u64, batch: Batch) -> Result<Receipt, (KeeperError, Batch)>
-        ensures answered { IfOk result (λ receipt. IsAnswered request batch receipt self.old self.new) }
-        ensures refused { IfErr result (λ e. IsRefused D.view L.answers Memory Device (submit_as_refusal self.old request batch) e.0 self.old self.new) }
-        ensures repeated { is_new self.old.standing request ≡ false → IfErr result (λ e. (e.0 ≡ Broken) ⊎ (e.0 ≡ OldVersion)) }
+        ensures submitted { Obeys D.view L.answers (SubmitAs request batch) (submitted_as result) self.old self.new }
         ensures back { IfErr result (λ e. e.1 ≡ batch) }
         ensures crash { LeavesAtCrash D.view L.answers (submission request batch ∷ []) self.old self.new }
         ensures device { KeepsDevice D.view Device (outcome result) self.old.device self.new.device }
@@ -162,11 +170,19 @@ impl<'p, D: Disk, K: Crew, L: Law> PoolEngine<'p, D, K, L> {
         self.keeper.submit_as(request, batch)
     }
 
+    /// Puts a group of batches on the journal, as `Keeper::submit_all`, whose refusals it has.
+    pub fn submit_all(&mut self, group: Group) -> Result<u64, (GroupError, Group)>
+        ensures submitted { Obeys D.view L.answers (SubmitAll group) (submitted_all (last_epoch self.new.standing + 1) result) self.old self.new }
+        ensures device { KeepsDevice D.view (ByKeeper Device) (outcome result) self.old.device self.new.device }
+    {
+        each_is_kept(&self.keeper);
+        self.keeper.submit_all(group)
+    }
+
     /// Writes the cut that waits, and answers its epoch, as `Keeper::write_cut`, whose refusals it has.
     pub fn write_cut(&mut self) -> Result<Option<u64>, KeeperError>
-        ensures written { IfOk result (λ written. IsWritten written self.old self.new) }
+        ensures written { Obeys D.view L.answers WriteCut (written result) self.old self.new }
         ensures none { (result ≡ Ok None) ↔ ((self.old.broken ≡ false) × (self.old.waiting ≡ false)) }
-        ensures refused { IfErr result (λ e. IsUnwritten e self.old self.new) }
         ensures crash { LeavesAtCrash D.view L.answers [] self.old self.new }
         ensures device { KeepsDevice D.view Device result self.old.device self.new.device }
         ensures last_request { last_request self.new.standing ≡ last_request self.old.standing }
@@ -175,14 +191,13 @@ impl<'p, D: Disk, K: Crew, L: Law> PoolEngine<'p, D, K, L> {
         self.keeper.write_cut()
     }
 
-    /// Obeys a command for which the keeper needs no hall.
-    pub fn obey_without_hall(&mut self, command: Command) -> Reply
-        requires { needs_hall command ≡ false }
-        ensures obeyed { Obeys D.view L.answers command result self.old self.new }
-        ensures size { (D.view self.new.device).capacity ≡ (D.view self.old.device).capacity }
-        ensures lawful { (D.view self.old.device).lawful ↔ (D.view self.new.device).lawful }
+    /// Closes cells of the journal that no epoch uses, as `Keeper::close_free`, whose refusals it has.
+    pub fn close_free(&mut self, most: u64) -> Result<(), KeeperError>
+        ensures closed { Obeys D.view L.answers (CloseFree most) (closed result) self.old self.new }
+        ensures device { KeepsDevice D.view Device result self.old.device self.new.device }
     {
-        self.keeper.obey_without_hall(command)
+        each_is_kept(&self.keeper);
+        self.keeper.close_free(most)
     }
 
     /// Whether the hall is this keeper's: by a number where it stands as it was left here, else by all that is kept.

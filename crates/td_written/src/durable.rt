@@ -71,7 +71,7 @@ pub fn stream<
     requires most { workers ≤ 16 }
     requires unpublished { IfSome watch (λ w. w.words ≡ 0 ∷ 0 ∷ 0 ∷ []) }
     ensures { StreamsBy (stored_beside L.answers C.has_map C.has_group C.has_fold below closures.items) D.view I.remaining
-        W.contents W.HasRoom W.marks H.New.view H.copies H.seen plan.now options (workers == 1) disk result.disk reader writer result.writer host result.host result.ended }
+        W.contents W.HasRoom W.marks H.New.view H.copies H.seen plan.now options (workers == 1) disk result.disk reader writer result.writer host result.host watch result.watch result.ended }
 {
     stream_by::<Brand, D, I, W, H, L, C, R>(
         rt, alloc, disk, plan, workers, options, reader, writer, watch, host, below, closures,
@@ -140,7 +140,7 @@ fn stream_by<
     requires most { workers ≤ 16 }
     requires unpublished { IfSome watch (λ w. w.words ≡ 0 ∷ 0 ∷ 0 ∷ []) }
     ensures { StreamsBy (stored_beside L.answers C.has_map C.has_group C.has_fold below F.closures) D.view I.remaining
-        W.contents W.HasRoom W.marks H.New.view H.copies H.seen plan.now options (workers == 1) disk result.disk reader writer result.writer host result.host result.ended }
+        W.contents W.HasRoom W.marks H.New.view H.copies H.seen plan.now options (workers == 1) disk result.disk reader writer result.writer host result.host watch result.watch result.ended }
 {
     let above = WrittenCalls::<F>::new(closures);
     let calls = BesideCalls { below, above };

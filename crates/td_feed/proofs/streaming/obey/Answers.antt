@@ -1,4 +1,4 @@
-use Rattle.std.proofs.Common.{◌≡◌, ℕ, Bool, true, false, List, refl, ap, ◌∙◌, subst}
+use Rattle.std.proofs.Common.{◌≡◌, ◌==◌, eqb-true, ℕ, Bool, true, false, List, refl, sym, ap, ◌∙◌, subst}
 use Rattle.std.specs.Prelude.{Option, option_map}
 use Rattle.td_plan.specs.Lines.{Line}
 use Rattle.td_store.specs.standing.Standing.{last_epoch, last_request}
@@ -15,6 +15,14 @@ given_where : (refuse : Bool) (records : ℕ) → is_given (limit_of refuse reco
 given_where true records = refl
 given_where false records = refl
 
+-- more than one worker
+not_one : (n : ℕ) → (n ≡ 1 → ⊥) → (n == 1) ≡ false
+not_one n several = by (n == 1) refl
+  where
+    by : (b : Bool) → (n == 1) ≡ b → b ≡ false
+    by true is = absurd (several (eqb-true n 1 is))
+    by false is = refl
+
 -- the script at the keeper's disk
 module _ (placing hold questions copies refuse : Bool) (records told last : ℕ) (plan : List Line) (input : Option (List ℕ)) where
   abbrev script_at_disk : List ℕ → Script
@@ -27,26 +35,28 @@ module _ (placing hold questions copies refuse : Bool) (records told last : ℕ)
       (λ i. option_map (placed ((given ∙ ap is_given is ∙ given_where refuse records) i) told last) ((from ∙ ap (λ (l : Option ℕ). option_map (read l) input) is) i))
       ∙ made_twice (read (limit_of refuse records)) (placed refuse told last) input (option_map (read (limit_of refuse records)) input) refl
 
-pub returns-then-workers-eq1-clause-served : goal.returns-then-workers-eq1-clause-served
-returns-then-workers-eq1-clause-served g c =
+pub returns-then-workers-eq1 : goal.returns-then-workers-eq1
+returns-then-workers-eq1 g c =
     let k = c.args.keeper in
     let o = c.args.options in
     let input = g.I.Source.remaining c.args.reader in
     let served = c.obey_alone.result in
     let made = made_at_disk o.placing o.hold o.questions o.copies o.refuse k.head.shape.m (last_epoch k.standing) (last_request k.standing) c.args.plan.now input c.limit_of-limit.result _ _ c.limit_of-limit.ensures c.new-orders.ensures.refuses c.new-orders.ensures.script in
-    let serves : Bool → Option Script → Type 0 = λ overlong script. Serves g.D.Disk.view g.L.Law.answers g.W.Voice.marks g.W.Sink.contents g.W.Sink.HasRoom g.H.New.Disk.view g.H.Host.copies g.H.Host.seen
-    (pace_of o) overlong script served.ended k served.keeper c.args.writer served.writer c.args.host served.host in
-    subst (λ (rest : Option (List ℕ)). serves (has_overlong rest) (option_map (asked_at o c.args.plan.now k) input)) c.new-orders.ensures.rest
-    (subst (serves (has_overlong c.new-orders.result.rest)) made c.obey_alone.ensures.served)
+    let serves : Bool → Bool → Option Script → Type 0 = λ alone overlong script. Serves g.D.Disk.view g.L.Law.answers g.W.Voice.marks g.W.Sink.contents g.W.Sink.HasRoom g.H.New.Disk.view g.H.Host.copies g.H.Host.seen
+    alone (pace_of o) overlong script served.ended k served.keeper c.args.writer served.writer c.args.host served.host in
+    subst (λ (alone : Bool). serves alone (has_overlong input) (option_map (asked_at o c.args.plan.now k) input)) (sym (ap (λ (n : ℕ). n == 1) c.if-workers-eq1.true))
+    (subst (λ (rest : Option (List ℕ)). serves true (has_overlong rest) (option_map (asked_at o c.args.plan.now k) input)) c.new-orders.ensures.rest
+    (subst (serves true (has_overlong c.new-orders.result.rest)) made c.obey_alone.ensures))
 
-pub returns-else-workers-eq1-clause-served : goal.returns-else-workers-eq1-clause-served
-returns-else-workers-eq1-clause-served g c =
+pub returns-else-workers-eq1 : goal.returns-else-workers-eq1
+returns-else-workers-eq1 g c =
     let k = c.args.keeper in
     let o = c.args.options in
     let input = g.I.Source.remaining c.args.reader in
     let served = c.obey_by_workers.result in
     let made = made_at_disk o.placing o.hold o.questions o.copies o.refuse k.head.shape.m (last_epoch k.standing) (last_request k.standing) c.args.plan.now input c.limit_of-limit.result _ _ c.limit_of-limit.ensures c.new-orders.ensures.refuses c.new-orders.ensures.script in
-    let serves : Bool → Option Script → Type 0 = λ overlong script. Serves g.D.Disk.view g.L.Law.answers g.W.Voice.marks g.W.Sink.contents g.W.Sink.HasRoom g.H.New.Disk.view g.H.Host.copies g.H.Host.seen
-    (pace_of o) overlong script served.ended k served.keeper c.args.writer served.writer c.args.host served.host in
-    subst (λ (rest : Option (List ℕ)). serves (has_overlong rest) (option_map (asked_at o c.args.plan.now k) input)) c.new-orders.ensures.rest
-    (subst (serves (has_overlong c.new-orders.result.rest)) made c.obey_by_workers.ensures)
+    let serves : Bool → Bool → Option Script → Type 0 = λ alone overlong script. Serves g.D.Disk.view g.L.Law.answers g.W.Voice.marks g.W.Sink.contents g.W.Sink.HasRoom g.H.New.Disk.view g.H.Host.copies g.H.Host.seen
+    alone (pace_of o) overlong script served.ended k served.keeper c.args.writer served.writer c.args.host served.host in
+    subst (λ (alone : Bool). serves alone (has_overlong input) (option_map (asked_at o c.args.plan.now k) input)) (sym (not_one c.args.workers c.if-workers-eq1.false))
+    (subst (λ (rest : Option (List ℕ)). serves false (has_overlong rest) (option_map (asked_at o c.args.plan.now k) input)) c.new-orders.ensures.rest
+    (subst (serves false (has_overlong c.new-orders.result.rest)) made c.obey_by_workers.ensures))

@@ -1,5 +1,5 @@
-use Rattle.std.proofs.Common.{◌≡◌, ◌==◌, eqb-true, Bool, true, false, ℕ, ◌≤◌, arith, List, [], ◌++◌, length, refl, sym, ap, ◌∙◌, subst, inl, inr, ⊎_elim}
-use Rattle.std.specs.Prelude.{Option, None, IfSome, IfErr, Ok, All}
+use Rattle.std.proofs.Common.{◌≡◌, ◌==◌, Bool, true, false, ℕ, ◌≤◌, arith, List, [], ◌++◌, length, refl, sym, ap, ◌∙◌, subst, inl, inr, ⊎_elim}
+use Rattle.std.specs.Prelude.{◌⊎◌, Option, None, option_map, IfSome, IfErr, Result, Ok, Err, OnOk, All}
 use Rattle.td_plan.specs.Lines.{Line}
 use Rattle.td_disk.specs.Disk.{DiskState, Rises, IsDurable}
 use Rattle.td_gate.specs.CrashSafe.{CrashSafe, Unchanged}
@@ -10,7 +10,8 @@ use Rattle.td_store.specs.standing.Read.{Refused}
 use Rattle.td_store.specs.standing.Stops.{Stands}
 use Rattle.td_store.specs.standing.Advanced.{states_by, HeldWhere}
 use Rattle.td_journal.specs.Numbers.{greatest}
-use Rattle.td_keeper.specs.Keeping.{Keeping, IsKeeping, EachKeepsTo, EverKeepsTo, KeepsSince}
+use Rattle.td_watch.specs.View.{View}
+use Rattle.td_keeper.specs.Keeping.{Keeping, IsKeeping, EachKeepsTo, EverKeepsTo, KeepsSince, HasPublished, words_of}
 use Rattle.td_orders.specs.declared.order.Order.{Order}
 use Rattle.td_feed.specs.Held.{seen_after, first_seen, then_seen, TellsSeen, GoesUpTo, KeepsTo}
 use Rattle.td_feed.specs.Copied.{IsCopyOf}
@@ -22,9 +23,12 @@ use Rattle.td_store.specs.standing.Standing.{last_epoch, last_request}
 use Rattle.td_orders.specs.Scripts.{Script, script_of}
 use Rattle.td_orders.specs.Lines.{has_overlong}
 use Rattle.td_orders.specs.Placed.{placed}
-use Rattle.td_feed.specs.Fed.{EachTellsHistory, EachTellsSome}
+use Rattle.td_store.specs.standing.Tells.{Keeps}
+use Rattle.td_console.specs.declared.faults.Fault.{Fault}
+use Rattle.td_feed.specs.Fed.{EachTellsHistory, EachTellsSome, HasRoom}
+use Rattle.td_feed.specs.Stepping.{IsInTime, KeepsPace}
 use Rattle.td_feed.specs.Carried.{new_to, Carries}
-use Rattle.td_feed.specs.Session.{limit_of, wanted_by, asked_at, KeepsDisk, FeedsScript}
+use Rattle.td_feed.specs.Session.{limit_of, pace_of, wanted_by, asked_at, KeepsDisk, FeedsScript}
 use Rattle.td_feed.proofs.Newness.{last_of_history}
 use Rattle.td_feed.proofs.Placed.{still_sound, seen_placed}
 use Rattle.td_feed.proofs.Carrying.{as_long, in_some, ended_some, ended_all, none_more, still_each, found}
@@ -42,6 +46,17 @@ use Rattle.td_feed.proofs.streaming.stream.Goals as goal
 within : (refuse : Bool) (records : ℕ) → IfSome (limit_of refuse records) (λ most. most ≡ records)
 within true records = refl
 within false records = tt
+
+-- two things of a feed that ended well
+on_ok_both : {P Q R : Type 0} (r : Result (Unit {0}) Fault) → (P → Q → R) → OnOk r P → OnOk r Q → OnOk r R
+on_ok_both (Ok d) both p q = both p q
+on_ok_both (Err f) both p q = tt
+
+-- no cut is due, where no outputs are held
+none_due : {D : Type 0} (every : Option ℕ) (k : Keeping D) → IsInTime every None k → (length k.standing.submitted ≡ 0) ⊎ HasRoom every k.head.shape.n k.standing
+none_due every k (inl (inl none)) = inl none
+none_due every k (inl (inr never)) = absurd never
+none_due every k (inr room) = inr room
 
 -- what a crash may leave, it might have left before
 beyond : (plan : List Line) (old new : DiskState) (kept last : ℕ) → CrashSafe Unchanged old new → ((c : List ℕ) → new.images c → new.since old.moment c) → kept ≤ last → EachKeepsTo plan kept old → EachKeepsTo plan last new
@@ -105,6 +120,7 @@ returns-in-Err-recover-clause-fed g c = λ fits.
             said = refl;
           });
         };
+        in_time = λ alone unheld. tt;
         held = λ hold lawful kept each.
             let safe : CrashSafe Unchanged (view c.args.disk).state (view new).state = recover.crash_safe lawful in
             let orders = (script_of c.args.options.placing c.args.options.hold c.args.options.questions c.args.options.copies (limit_of c.args.options.refuse 0) c.args.plan.now input).orders in
@@ -124,19 +140,13 @@ returns-in-Err-recover-clause-fed g c = λ fits.
       };
     })
 
-pub returns-in-Err-recover-clause-seen : goal.returns-in-Err-recover-clause-seen
-returns-in-Err-recover-clause-seen g c = λ fits. in_some (g.I.Source.remaining c.args.reader) (λ input. inl (refl, refl))
-
-pub returns-in-Err-clause-seen : goal.returns-in-Err-clause-seen
-returns-in-Err-clause-seen g c = λ none. absurd (let some = c.in-Err.ensures.err in cc)
-
 pub returns-clause-disk : goal.returns-clause-disk
 returns-clause-disk g c =
     let view = g.D.Disk.view in
     let r = c.obey-served.result.ended in
-    subst (λ (d : g.row.D.Denot). KeepsDisk view r c.args.disk d) (sym c.into_disk.ensures.disk)
+    subst (λ (d : g.row.D.Denot). KeepsDisk view r c.args.disk d) (sym c.disk_and_watch-disk.ensures.disk)
     (disk_then (disk_recovered c.in-Ok.ensures.device)
-    (subst (λ (d : g.row.D.Denot). KeepsDisk view r d c.obey-served.result.keeper.device) c.watched-keeper.ensures.device c.obey-served.ensures.served.disk))
+    (subst (λ (d : g.row.D.Denot). KeepsDisk view r d c.obey-served.result.keeper.device) c.watched-keeper.ensures.device c.obey-served.ensures.disk))
 
 pub returns-clause-fed : goal.returns-clause-fed
 returns-clause-fed g c = λ fits.
@@ -150,16 +160,16 @@ returns-clause-fed g c = λ fits.
     let r = c.obey-served.result.ended in
     let u = g.W.Sink.contents c.args.writer in
     let v = g.W.Sink.contents c.obey-served.result.writer in
-    let held = c.into_disk.ensures.held in
+    let held = c.disk_and_watch-disk.ensures.held in
     let remaining = g.I.Source.remaining c.args.reader in
     let refuse = c.args.options.refuse in
     in_some_is remaining
     (λ input is.
-    let fed = mapped _ (asked_at c.args.options plan c.watched-keeper.result) remaining input is c.obey-served.ensures.served.fed in
+    let fed = mapped _ (asked_at c.args.options plan c.watched-keeper.result) remaining input is c.obey-served.ensures.fed in
     let script_at : Keeping g.row.D.Denot → Script =
     λ k. placed refuse (last_epoch k.standing) (last_request k.standing) (script_of c.args.options.placing c.args.options.hold c.args.options.questions c.args.options.copies (limit_of refuse k.head.shape.m) plan input) in
     let keeps : KeepsTo (then_seen (first_seen c.args.options.hold keeper.standing.epoch) (script_at keeper).orders) keeper new =
-    subst (λ (k : Keeping g.row.D.Denot). KeepsTo (then_seen (first_seen c.args.options.hold k.standing.epoch) (script_at k).orders) k new) c.watched-keeper.ensures.aside.1 (mapped _ (asked_at c.args.options plan c.watched-keeper.result) remaining input is c.obey-served.ensures.served.held) in
+    subst (λ (k : Keeping g.row.D.Denot). KeepsTo (then_seen (first_seen c.args.options.hold k.standing.epoch) (script_at k).orders) k new) c.watched-keeper.ensures.aside.1 (mapped _ (asked_at c.args.options plan c.watched-keeper.result) remaining input is c.obey-served.ensures.held) in
     let limit : Option ℕ = limit_of refuse keeper.head.shape.m in
     let told : ℕ = last_epoch keeper.standing in
     let last : ℕ = last_request keeper.standing in
@@ -186,7 +196,7 @@ returns-clause-fed g c = λ fits.
     let first = last_of_history answers plan keeper.standing history is in
     let long = sym (as_long answers plan keeper.standing history is) in
     λ i. new_after (first i) (submissions (placed refuse (long i) (first i) raw).orders) in
-    let left_lawful : (view old).lawful → (view new.device).lawful = λ lawful. c.obey-served.ensures.served.disk.lawful.0 (subst (λ (d : g.row.D.Denot). (view d).lawful) (sym c.watched-keeper.ensures.device) (c.in-Ok.ensures.device.lawful.0 lawful)) in
+    let left_lawful : (view old).lawful → (view new.device).lawful = λ lawful. c.obey-served.ensures.disk.lawful.0 (subst (λ (d : g.row.D.Denot). (view d).lawful) (sym c.watched-keeper.ensures.device) (c.in-Ok.ensures.device.lawful.0 lawful)) in
     let driven = always_driven view answers marks r u v keeper new more whole.fed.done feeds.said in
     let goes = λ (hold : c.args.options.hold ≡ true). held_by {old = keeper} {new = new} c.args.options.hold keeper.standing.epoch asked.orders hold keeps in
     let most = λ (hold : c.args.options.hold ≡ true) (lawful : (view old).lawful) (kept : ℕ) (each : EachKeepsTo plan kept (view old).state).
@@ -198,7 +208,7 @@ returns-clause-fed g c = λ fits.
     let on = seen_on kept asked.orders in
     let further = seen_further keeper.standing.epoch kept asked.orders low in
     (goes hold).base (seen_after kept asked.orders) further (omega (arith, base, low, on)) in
-    let from : SaysFrom view answers marks r plan (c.args.workers == 1) old c.into_disk.result u v (wanted_by refuse limit raw) =
+    let from : SaysFrom view answers marks r plan (c.args.workers == 1) old c.disk_and_watch-disk.result.0 u v (wanted_by refuse limit raw) =
     record {
       keeper = c.in-Ok.keeper;
       fresh = c.in-Ok.ensures.fresh;
@@ -210,14 +220,14 @@ returns-clause-fed g c = λ fits.
       unwritten = c.in-Ok.ensures.crash_safe;
       found = c.in-Ok.ensures.kept;
       ended = new;
-      left_is = c.into_disk.ensures.disk;
-      lawful_left = λ lawful. subst (λ (d : g.row.D.Denot). (view d).lawful) (sym c.into_disk.ensures.disk) (left_lawful lawful);
-      holds = subst (λ (d : g.row.D.Denot). (view d).lawful → HeldWhere new.broken answers new.plan new.head new.side new.standing (view d).state) (sym c.into_disk.ensures.disk) held;
+      left_is = c.disk_and_watch-disk.ensures.disk;
+      lawful_left = λ lawful. subst (λ (d : g.row.D.Denot). (view d).lawful) (sym c.disk_and_watch-disk.ensures.disk) (left_lawful lawful);
+      holds = subst (λ (d : g.row.D.Denot). (view d).lawful → HeldWhere new.broken answers new.plan new.head new.side new.standing (view d).state) (sym c.disk_and_watch-disk.ensures.disk) held;
       limit = within c.args.options.refuse keeper.head.shape.m;
       notes = whole.fed.done;
       came = whole.fed.came;
       said = feeds.said;
-      all_out = λ is. c.obey-served.ensures.all_out (eqb-true c.args.workers 1 is);
+      all_out = c.obey-served.ensures.all_out;
     } in
     let copied = whole.fed.copied in
     record {
@@ -232,22 +242,35 @@ returns-clause-fed g c = λ fits.
         fed = record {
           fed = on_ok_weaker r (λ (carries : Carries answers keeper new more) lawful history told.
               let is = stands lawful history told in
-              subst (λ (l : List Submitted). EachTellsHistory answers plan (history ++ l) (view c.into_disk.result).state) (also history is)
-              (subst (λ (d : g.row.D.Denot). EachTellsHistory answers plan (history ++ more) (view d).state) (sym c.into_disk.ensures.disk)
+              subst (λ (l : List Submitted). EachTellsHistory answers plan (history ++ l) (view c.disk_and_watch-disk.result.0).state) (also history is)
+              (subst (λ (d : g.row.D.Denot). EachTellsHistory answers plan (history ++ more) (view d).state) (sym c.disk_and_watch-disk.ensures.disk)
               (subst (λ (p : List Line). EachTellsHistory answers p (history ++ more) (view new.device).state) c.in-Ok.ensures.plan
               (ended_all view answers c.told_in_parts.ensures.together keeper new history more (by_keeper history is) carries held (left_lawful lawful))))) feeds.carried;
           safe = λ lawful history told.
               let is = stands lawful history told in
-              subst (λ (l : List Submitted). EachTellsSome answers plan history l (view c.into_disk.result).state) (also history is)
-              (subst (λ (d : g.row.D.Denot). EachTellsSome answers plan history more (view d).state) (sym c.into_disk.ensures.disk)
+              subst (λ (l : List Submitted). EachTellsSome answers plan history l (view c.disk_and_watch-disk.result.0).state) (also history is)
+              (subst (λ (d : g.row.D.Denot). EachTellsSome answers plan history more (view d).state) (sym c.disk_and_watch-disk.ensures.disk)
               (subst (λ (p : List Line). EachTellsSome answers p history more (view new.device).state) c.in-Ok.ensures.plan
               (ended_some view answers c.told_in_parts.ensures.together keeper new history more (by_keeper history is) (left_of r feeds) held (left_lawful lawful))));
-          said = fed_says view answers marks r plan (c.args.workers == 1) old c.into_disk.result u v (wanted_by refuse limit raw) from;
+          said = fed_says view answers marks r plan (c.args.workers == 1) old c.disk_and_watch-disk.result.0 u v (wanted_by refuse limit raw) from;
         };
+        in_time = λ alone unheld.
+            on_ok_both r (λ (carries : Carries answers keeper new more) (in_time : KeepsPace (pace_of c.args.options) None new) lawful.
+            let sound = left_lawful lawful in
+            record {
+              head = new.head;
+              side = new.side;
+              standing = new.standing;
+              keeps =
+                  subst (λ (d : g.row.D.Denot). Keeps plan new.head new.side new.standing (view d).state) (sym c.disk_and_watch-disk.ensures.disk)
+                  (subst (λ (p : List Line). Keeps p new.head new.side new.standing (view new.device).state) (carries.plan ∙ c.in-Ok.ensures.plan)
+                  (subst (λ (b : Bool). HeldWhere b answers new.plan new.head new.side new.standing (view new.device).state) carries.whole (held sound)));
+              in_time = none_due c.args.options.cut_every new in_time;
+            }) feeds.carried (c.obey-served.ensures.in_time alone (ap (λ (b : Bool). first_seen b c.watched-keeper.result.standing.epoch) unheld));
         held = λ hold lawful kept each.
             let at_most = most hold lawful kept each in
             let said = seen_placed raw.fault refuse told last raw.orders kept in
-            subst (λ (d : g.row.D.Denot). EachKeepsTo plan (seen_after kept raw.orders) (view d).state) (sym c.into_disk.ensures.disk)
+            subst (λ (d : g.row.D.Denot). EachKeepsTo plan (seen_after kept raw.orders) (view d).state) (sym c.disk_and_watch-disk.ensures.disk)
             (subst (λ (p : List Line). EachKeepsTo p (seen_after kept raw.orders) (view new.device).state) ((goes hold).plan ∙ c.in-Ok.ensures.plan)
             (λ i image t told. let low = c.each_keeps_to_its_base.ensures (left_lawful lawful) i image t told in omega (arith, low, at_most, said)));
         ever_held = λ hold lawful kept each.
@@ -255,14 +278,14 @@ returns-clause-fed g c = λ fits.
             let at_most = most hold lawful kept each in
             let said = seen_placed raw.fault refuse told last raw.orders kept in
             let far : new.base ≤ seen_after kept raw.orders = omega (arith, at_most, said) in
-            subst (λ (d : g.row.D.Denot). EverKeepsTo plan (seen_after kept raw.orders) (view old).state.moment (view d).state) (sym c.into_disk.ensures.disk)
+            subst (λ (d : g.row.D.Denot). EverKeepsTo plan (seen_after kept raw.orders) (view old).state.moment (view d).state) (sym c.disk_and_watch-disk.ensures.disk)
             (ever plan (view old).state (view keeper.device).state (view new.device).state kept new.base (seen_after kept raw.orders) (c.in-Ok.ensures.crash_safe lawful)
             (subst (λ (p : List Line). KeepsSince p new.base (view keeper.device).state (view new.device).state) c.in-Ok.ensures.plan short) (seen_on kept raw.orders) far each);
       };
       copied = record {
         made = copied.made;
         kept = copied.kept;
-        labelled = copied.labelled ∙ sym (says_copies view answers marks r plan (c.args.workers == 1) old c.into_disk.result u v (wanted_by refuse limit raw) from);
+        labelled = copied.labelled ∙ sym (says_copies view answers marks r plan (c.args.workers == 1) old c.disk_and_watch-disk.result.0 u v (wanted_by refuse limit raw) from);
         each = λ lawful history told.
             let is = stands lawful history told in
             subst (λ (l : List Submitted). All (IsCopyOf new_view answers plan (history ++ l)) copied.made) (also history is)
@@ -270,33 +293,6 @@ returns-clause-fed g c = λ fits.
             (copied.each (c.in-Ok.ensures.device.lawful.0 lawful) history (by_keeper history is)));
       };
     })
-
-pub returns-clause-seen : goal.returns-clause-seen
-returns-clause-seen g c = λ fits.
-    let view = g.D.Disk.view in
-    let plan = c.args.plan.now in
-    let old = c.args.disk in
-    let keeper : Keeping g.row.D.Denot = (record c.in-Ok.keeper { watch = c.watched-keeper.ensures.aside.0 }) in
-    let r = c.obey-served.result.ended in
-    let refuse = c.args.options.refuse in
-    let hold = c.args.options.hold in
-    let before = g.H.Host.seen c.args.host in
-    let after = g.H.Host.seen c.obey-served.result.host in
-    let remaining = g.I.Source.remaining c.args.reader in
-    in_some_is remaining
-    (λ input is.
-    let orders_at : Keeping g.row.D.Denot → List Order =
-    λ k. (placed refuse (last_epoch k.standing) (last_request k.standing) (script_of c.args.options.placing hold c.args.options.questions c.args.options.copies (limit_of refuse k.head.shape.m) plan input)).orders in
-    inr (record {
-      records = keeper.head.shape.m;
-      standing = keeper.standing;
-      told = λ lawful.
-          let safe : CrashSafe Unchanged (view old).state (view keeper.device).state = c.in-Ok.ensures.crash_safe lawful in
-          let sound = c.in-Ok.ensures.device.lawful.0 lawful in
-          let was = safe.each (view keeper.device).state.bytes (g.met.D.Disk.counts_now keeper.device (view old).state.moment (view keeper.device).state.bytes sound safe.later (g.met.D.Disk.reads_image keeper.device sound)) in
-          (was.0, was.1, subst (λ (i : List ℕ). Told plan i (Ok keeper.standing)) was.2 (c.in-Ok.ensures.told lawful));
-      seen = subst (λ (k : Keeping g.row.D.Denot). TellsSeen r (first_seen hold k.standing.epoch) (orders_at k) before after) c.watched-keeper.ensures.aside.1 (mapped _ (asked_at c.args.options plan c.watched-keeper.result) remaining input is c.obey-served.ensures.served.seen);
-    }))
 
 pub returns-in-Err-clause-fault : goal.returns-in-Err-clause-fault
 returns-in-Err-clause-fault g c =
@@ -325,7 +321,7 @@ returns-clause-fault g c =
     λ k. placed refuse (last_epoch k.standing) (last_request k.standing) (script_of c.args.options.placing c.args.options.hold c.args.options.questions c.args.options.copies (limit_of refuse k.head.shape.m) plan input) in
     refused_at view answers has c.args.options r plan old input keeper.head.shape.m (last_epoch keeper.standing) (last_request keeper.standing)
     (subst (λ (rest : Option (List ℕ)). IfErr r (IsOfStream (has_overlong rest) (script_at keeper) has)) is
-    (subst (λ (k : Keeping g.row.D.Denot). IfErr r (IsOfStream (has_overlong remaining) (script_at k) has)) c.watched-keeper.ensures.aside.1 (mapped _ (asked_at c.args.options plan c.watched-keeper.result) remaining input is c.obey-served.ensures.served.fault)))
+    (subst (λ (k : Keeping g.row.D.Denot). IfErr r (IsOfStream (has_overlong remaining) (script_at k) has)) c.watched-keeper.ensures.aside.1 (mapped _ (asked_at c.args.options plan c.watched-keeper.result) remaining input is c.obey-served.ensures.fault)))
     (λ lawful history known.
     let safe : CrashSafe Unchanged (view old).state (view keeper.device).state = c.in-Ok.ensures.crash_safe lawful in
     let stood =
@@ -333,3 +329,70 @@ returns-clause-fault g c =
     (λ i image. g.met.D.Disk.counts_now keeper.device (view old).state.moment i (c.in-Ok.ensures.device.lawful.0 lawful) safe.later image) known
     c.told_in_parts.ensures.one_answer (g.met.D.Disk.reads_image keeper.device (c.in-Ok.ensures.device.lawful.0 lawful)) keeper.standing (c.in-Ok.ensures.told lawful) in
     (sym (as_long answers plan keeper.standing history stood), last_of_history answers plan keeper.standing history stood)))
+
+pub returns-in-Err-clause-told : goal.returns-in-Err-clause-told
+returns-in-Err-clause-told g c = λ none. absurd (let some = c.in-Err.ensures.err in cc)
+
+pub returns-in-Err-recover-clause-told : goal.returns-in-Err-recover-clause-told
+returns-in-Err-recover-clause-told g c = λ fits. in_some (g.I.Source.remaining c.args.reader) (λ input. record { seen = inl (refl, refl); watch = record { same = refl; told = tt } })
+
+pub returns-clause-told : goal.returns-clause-told
+returns-clause-told g c = λ fits.
+    let view = g.D.Disk.view in
+    let plan = c.args.plan.now in
+    let old = c.args.disk in
+    let keeper : Keeping g.row.D.Denot = (record c.in-Ok.keeper { watch = c.watched-keeper.ensures.aside.0 }) in
+    let r = c.obey-served.result.ended in
+    let refuse = c.args.options.refuse in
+    let hold = c.args.options.hold in
+    let before = g.H.Host.seen c.args.host in
+    let after = g.H.Host.seen c.obey-served.result.host in
+    let remaining = g.I.Source.remaining c.args.reader in
+    let answers = g.L.Law.answers in
+    let marks = g.W.Voice.marks in
+    let first = c.watched-keeper.result in
+    let new = c.obey-served.result.keeper in
+    let u = g.W.Sink.contents c.args.writer in
+    let v = g.W.Sink.contents c.obey-served.result.writer in
+    let had = g.H.Host.copies c.args.host in
+    let has = g.H.Host.copies c.obey-served.result.host in
+    let apart = c.disk_and_watch-disk.ensures in
+    in_some_is remaining
+    (λ input known. record {
+      seen =
+          let orders_at : Keeping g.row.D.Denot → List Order =
+          λ k. (placed refuse (last_epoch k.standing) (last_request k.standing) (script_of c.args.options.placing hold c.args.options.questions c.args.options.copies (limit_of refuse k.head.shape.m) plan input)).orders in
+          inr (record {
+            records = keeper.head.shape.m;
+            standing = keeper.standing;
+            told = λ lawful.
+                let safe : CrashSafe Unchanged (view old).state (view keeper.device).state = c.in-Ok.ensures.crash_safe lawful in
+                let sound = c.in-Ok.ensures.device.lawful.0 lawful in
+                let was = safe.each (view keeper.device).state.bytes (g.met.D.Disk.counts_now keeper.device (view old).state.moment (view keeper.device).state.bytes sound safe.later (g.met.D.Disk.reads_image keeper.device sound)) in
+                (was.0, was.1, subst (λ (i : List ℕ). Told plan i (Ok keeper.standing)) was.2 (c.in-Ok.ensures.told lawful));
+            seen = subst (λ (k : Keeping g.row.D.Denot). TellsSeen r (first_seen hold k.standing.epoch) (orders_at k) before after) c.watched-keeper.ensures.aside.1 (mapped _ (asked_at c.args.options plan c.watched-keeper.result) remaining input known c.obey-served.ensures.seen);
+          });
+      watch =
+          let fed : FeedsScript view answers marks g.H.New.Disk.view r u v had has first new (asked_at c.args.options plan first input) = mapped _ (asked_at c.args.options plan first) remaining input known c.obey-served.ensures.fed in
+          let feeds = fed.fed.fed in
+          let more : List Submitted = new_to first (submissions (asked_at c.args.options plan first input).orders) in
+          let driven = always_driven view answers marks r u v first new more fed.fed.done feeds.said in
+          let on = c.driven_publishes.ensures driven.commands driven.replies first new driven.driven in
+          let words : HasPublished new.watch (words_of new) = on.words c.watched-keeper.ensures.published in
+          record {
+            same = ap (option_map (λ (v : View). v.watch)) apart.watch ∙ (on.same ∙ c.watched-keeper.ensures.watch);
+            told = on_ok_weaker r (λ (carries : Carries answers first new more) lawful.
+                let sound : (view new.device).lawful = c.obey-served.ensures.disk.lawful.0 (subst (λ (d : g.row.D.Denot). (view d).lawful) (sym c.watched-keeper.ensures.device) (c.in-Ok.ensures.device.lawful.0 lawful)) in
+                record {
+                  head = new.head;
+                  side = new.side;
+                  standing = new.standing;
+                  keeps =
+                      subst (λ (d : g.row.D.Denot). Keeps plan new.head new.side new.standing (view d).state) (sym apart.disk)
+                      (subst (λ (p : List Line). Keeps p new.head new.side new.standing (view new.device).state) (carries.plan ∙ (ap (λ (k : Keeping g.row.D.Denot). k.plan) c.watched-keeper.ensures.aside.1 ∙ c.in-Ok.ensures.plan))
+                      (subst (λ (b : Bool). HeldWhere b answers new.plan new.head new.side new.standing (view new.device).state) carries.whole (apart.held sound)));
+                  collected = new.collected;
+                  published = subst (λ (w : Option View). HasPublished w (words_of new)) (sym apart.watch) words;
+                }) feeds.carried;
+          };
+    })

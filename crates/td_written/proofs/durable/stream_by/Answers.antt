@@ -22,5 +22,5 @@ returns g c =
     subst (λ (s : Working _). StreamsBy (stored_beside g.L.Law.answers g.C.Closures.has_map g.C.Closures.has_group g.C.Closures.has_fold s.calls.below g.F.Formulas.closures)
     g.D.Disk.view g.I.Source.remaining g.W.Sink.contents g.W.Sink.HasRoom g.W.Voice.marks g.H.New.Disk.view
     g.H.Host.copies g.H.Host.seen s.plan c.args.options (s.workers == 1)
-    c.args.disk c.stream.result.disk c.args.reader c.args.writer c.stream.result.writer c.args.host c.stream.result.host c.stream.result.ended) c.new.ensures
-    (record { disk_is_kept = fed.disk; lack = fed.lack; fits = fits_after _ _ _ fed.lack (λ l is. is.0); fault = fed.fault; fed = fed.fed; seen = fed.seen })
+    c.args.disk c.stream.result.disk c.args.reader c.args.writer c.stream.result.writer c.args.host c.stream.result.host c.args.watch c.stream.result.watch c.stream.result.ended) c.new.ensures
+    (record { disk_is_kept = fed.disk; lack = fed.lack; fits = fits_after _ _ _ fed.lack (λ l is. is.0); fault = fed.fault; fed = fed.fed; told_around = fed.told })

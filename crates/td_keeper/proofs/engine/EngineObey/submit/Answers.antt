@@ -1,0 +1,30 @@
+use Rattle.std.proofs.Common.{sym, ap, ◌∙◌, subst}
+use Rattle.td_plan.specs.Blocks.{vertices}
+use Rattle.td_calls.specs.Fits.{first_lack}
+use Rattle.td_keeper.specs.declared.command.Command.TheVariants.{Submit}
+use Rattle.td_keeper.specs.Keeping.{Keeping}
+use Rattle.td_keeper.specs.Halls.{IsOwn, KeeperAndHall}
+use Rattle.td_keeper.specs.Driven.{Obeys, submitted}
+use Rattle.td_keeper.proofs.Obeying.{submit_obeys, submit_owns}
+use Rattle.td_keeper.proofs.Owning.{own_home}
+use Rattle.td_keeper.proofs.engine.EngineObey.submit.Goals as goal
+
+pub returns-clause-submitted : goal.returns-clause-submitted
+returns-clause-submitted g c =
+    let old : Keeping g.row.D.Denot = c.self.inside.keeper in
+    let new = c.submit.new.self in
+    let e = c.submit.ensures in
+    subst (λ (k : KeeperAndHall g.row.D.Denot). Obeys g.D.Disk.view g.L.Law.answers (Submit c.args.batch) (submitted c.submit.result) k.keeping new) c.self.view_is (submit_obeys g.D.Disk.view g.L.Law.answers old new c.args.batch c.submit.result e.submitted e.refused e.back e.crash e.device)
+
+pub invariant_of-self : goal.invariant_of-self
+invariant_of-self g c =
+    let S = c.self.inside.hall in
+    let old = c.self.inside.keeper in
+    let new = c.submit.new.self in
+    let e = c.submit.ensures in
+    let home = c.self.invariant.0 in
+    let own : IsOwn new S = submit_owns g.D.Disk.view g.L.Law.answers old new c.each_is_kept.ensures S home.own c.args.batch c.submit.result e.submitted e.refused in (
+      own_home old new S home own,
+      ap (λ plan. first_lack (g.C.Closures.has_map c.self.inside.calls.now) (g.C.Closures.has_group c.self.inside.calls.now) (g.C.Closures.has_fold c.self.inside.calls.now) (vertices plan)) (sym own.plan ∙ home.own.plan)
+          ∙ c.self.invariant.1,
+    )
