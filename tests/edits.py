@@ -9,8 +9,9 @@ which passes an edit where anything of the crate is not proved.
 An edit says in a line which function it changes, `function: Bag::add` or `function: <Bag as PartialEq>::eq`; the kit reads no such line. One that
 names another function is refused.
 
-What such a check does not settle is tried alone, as `rt ci` would: an edit without such a line, one of a function whose callee is not
-proved either, and every edit of a check in which a function without an edit is not proved."""
+What such a check does not settle is tried alone, as `rt ci` would: an edit without such a line, and one of a function whose callee is not
+proved either. A check in which a function without an edit is not proved, or a text cannot be read, settles nothing: its edits are tried in halves, until few
+are left."""
 
 import importlib.machinery
 import importlib.util
@@ -34,6 +35,8 @@ def load_rt():
 
 # How an edit was tried that was not tried alone.
 TOGETHER = "together"
+# So many edits, of which one check settles none, are tried alone. More are tried in two halves: mostly one edit is at fault.
+FEW = 4
 
 # Functions
 
@@ -75,6 +78,7 @@ class Edit:
     def __init__(self, file, crate, rt):
         self.name = pathlib.Path(file).stem
         self.file = file
+        self.crate = crate
         self.text = pathlib.Path(file).read_text(encoding="utf-8")
         self.function = self.wrong = None
         line = re.search(r"(?m)^function: *(.*?)\s*$", self.text)
@@ -159,14 +163,18 @@ def try_edits(crate, files, rt):
     try:
         edits = [Edit(it, crate, rt) for it in files]
         answers.update({it.name: (False, it.wrong) for it in edits if it.wrong})
-        left = [it for it in edits if it.function is not None]
-        while left:
-            taken, texts = together(left, crate, rt)
+        named = [it for it in edits if it.function is not None]
+        parts = [named] if named else []
+        while parts:
+            part = parts.pop()
+            taken, texts = together(part, crate, rt)
             refused = tried_together(taken, texts, crate, rt, kept)
             answers.update({it.name: (True, TOGETHER) for it in refused})
-            left = [it for it in left if it not in refused]
-            if not refused:
-                break
+            left = [it for it in part if it not in refused]
+            if refused and left:
+                parts.append(left)
+            elif len(left) > FEW:
+                parts += [left[::2], left[1::2]]
         for edit in edits:
             if edit.name not in answers:
                 answers[edit.name] = tried_alone(edit, crate, rt, kept)

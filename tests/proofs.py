@@ -1,6 +1,8 @@
 """Everything proved, by `rt ci` on a copy of the repository without the must-fail edits, and these tried over what it proves."""
 
+import collections
 import concurrent.futures
+import contextlib
 import copy
 import os
 import pathlib
@@ -10,8 +12,10 @@ import subprocess
 import sys
 import tempfile
 import threading
+import time
 
 import edits
+import reading
 from gate import processors
 from lib import ROOT
 
@@ -88,7 +92,7 @@ def build_archives(tally, crates):
 
 
 def are_readable(tally, trials):
-    """Whether each must-fail edit can be tried as it says, which is seen before anything is proved."""
+    """Whether each must-fail edit can be tried as it says, which is seen before anything is proved: its text first, and then by the front end."""
     failed = tally.failed
     for name, crate in trials.crates.items():
         for file in set((ROOT / "crates" / name).glob("must-fail/*")) - set(edits_of(name)):
@@ -97,7 +101,23 @@ def are_readable(tally, trials):
         for file in edits_of(name):
             if why := edits.misread(file, crate, trials.rt):
                 tally.fail(f"must-fail {name}/{file.stem}", why)
-    return tally.failed == failed
+    return tally.failed == failed and are_compiled(tally, trials, trials.crates)
+
+
+def are_compiled(tally, trials, names):
+    """Whether the front end accepts each must-fail edit of the named crates. Where it cannot read them, that is said, and they are tried unread."""
+    begun = time.monotonic()
+    files = {trials.crates[name]: edits_of(name) for name in names if edits_of(name)}
+    try:
+        refused = reading.Reader(trials.rt).refused(files)
+    except (OSError, RuntimeError) as error:
+        print(f"check: the must-fail edits are tried unread: {error}", flush=True)
+        return True
+    for edit, errors in refused.items():
+        what = f"must-fail {edit.crate.name}/{edit.name}" if edit else "the crates as they stand"
+        tally.fail(what, f"the front end refuses: {'; '.join(it[:300] for it in errors[:3])}")
+    print(f"check: the front end read {sum(map(len, files.values()))} must-fail edits in {time.monotonic() - begun:.0f} s", flush=True)
+    return not refused
 
 
 def edits_of(name):
@@ -113,11 +133,13 @@ class Trials:
     def __init__(self, top):
         self.rt = edits.load_rt()
         self.rt.rtlib.guarded()
-        self.crates = {it.name: it for it in self.rt.rtlib.crates_below(str(top))}
+        # (a build that runs has copies of crates in out/)
+        self.crates = {it.name: it for it in self.rt.rtlib.crates_below(f"{top}/crates")}
         self.processors = max(self.BESIDE, processors())
         self.pool = concurrent.futures.ThreadPoolExecutor(self.processors)
         self.permits = threading.Semaphore(self.BESIDE)
         self.runs = {}
+        self.times = Times()
 
     def begin(self, name):
         """Has a crate's edits tried, where it has some and they were not begun: the libraries below it are proved."""
@@ -145,6 +167,40 @@ class Trials:
                 if not is_refused:
                     tally.fail(f"must-fail {name}/{edit}", said)
         self.pool.shutdown()
+        print(f"check: minutes of processor time of proofs and edits: {self.times.said()}", flush=True)
+
+
+class Times:
+    """The processor time of each crate's proofs and edits, which the kit does not tell: what the system says of the processes that this one or its
+    `rt ci` began, asked every two seconds. So what each takes last is not counted."""
+
+    def __init__(self):
+        self.ticks = {}
+        threading.Thread(target=self.ask, daemon=True).start()
+
+    def ask(self):
+        while True:
+            for process in filter(str.isdigit, os.listdir("/proc")):
+                with contextlib.suppress(OSError):
+                    self.note(process)
+            time.sleep(2)
+
+    def note(self, process):
+        name = re.search(r"--crate-name\0(\w+)", pathlib.Path(f"/proc/{process}/cmdline").read_text(errors="replace"))
+        stat = stat_of(process)
+        if name and str(os.getpid()) in (stat[1], stat_of(stat[1])[1]):
+            self.ticks[name[1], process, stat[19]] = sum(map(int, stat[11:15]))
+
+    def said(self):
+        minutes = collections.Counter()
+        for (name, *_), ticks in list(self.ticks.items()):
+            minutes[name] += ticks / os.sysconf("SC_CLK_TCK") / 60
+        return ", ".join(f"{name} {it:.1f}" for name, it in minutes.most_common())
+
+
+def stat_of(process):
+    """What the system says of a process: its state, its parent, and more (proc_pid_stat(5), from the third field on)."""
+    return pathlib.Path(f"/proc/{process}/stat").read_text(errors="replace").rpartition(")")[2].split()
 
 
 def try_edits_of(tally, names):
@@ -154,6 +210,9 @@ def try_edits_of(tally, names):
     for name in names:
         if name not in trials.crates:
             return tally.fail(name, "crates.txt lists no such crate")
+    if not are_compiled(tally, trials, names):
+        return
+    for name in names:
         for below in trials.crates[name].below():
             if below.build_rlib(["--jobs", "1"], anew=False):
                 return tally.fail(name, f"{below.name}, below it, is not proved")
