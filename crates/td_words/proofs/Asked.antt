@@ -1,5 +1,5 @@
 -- What the matches of a parse ask for.
-use Rattle.std.proofs.Common.{◌≡◌, ◌≢◌, ◌⊎◌, inl, inr, ℕ, ◌<◌, ◌≤◌, ◌^◌, Bool, List, [], Option, Some, None, option_map, Result, Ok, Err, IfOk, IfErr, IfNone, refl, ap, ap₂, sym, ◌∙◌, subst, arith, bytes_eq, codes, lit<}
+use Rattle.std.proofs.Common.{◌≡◌, ◌≢◌, IsTrue, false, ◌⊎◌, inl, inr, ℕ, ◌<◌, ◌≤◌, ◌^◌, Bool, List, [], Option, Some, None, option_map, Result, Ok, Err, IfOk, IfErr, IfNone, refl, ap, ap₂, sym, ◌∙◌, subst, arith, codes, lit<}
 use Rattle.std.specs.Borrow.{Bor}
 use Rattle.std.specs.Str.Parse.{ParsesUnsigned, IsNumeral, digits_value, without_leading_plus}
 use Rattle.clap.specs.declared.parser.matches.Found.{Found}
@@ -11,11 +11,13 @@ use Rattle.clap.proofs.WalkLemmas.{one_text-rows}
 use Rattle.clap.specs.Faults.{fault_of}
 use Rattle.clap.specs.Kinds.{IsAmong}
 use Rattle.td_words.specs.declared.job.Job.{Job}
-use Rattle.td_words.specs.declared.job.Job.TheVariants.{Batch, Run, Sim, Format, Feed, Show, Dump, Upgrade, Stream, Plan, Help, Version, Faults, Language}
+use Rattle.td_words.specs.declared.job.Job.TheVariants.{Batch, Run, Sim, Format, Feed, Stream, Help, Version, Faults, Language}
 use Rattle.td_words.specs.declared.job.WordsError.{WordsError}
 use Rattle.td_words.specs.declared.job.WordsError.TheVariants.{Words, Memory}
 use Rattle.td_words.specs.Jobs.{IsHelp, IsOf}
-use Rattle.td_words.specs.Command.{td, IsNumber, IsWorkers, IsClosures, IsBatch, IsNamed, HasValues, HasWorkers, IsAsked, IsNotTaken, name_of, IsFormat, IsFeed}
+use Rattle.td_words.specs.Command.{td, IsNumber, IsClosures, HasShape, IsNamed, HasValues, HasWorkers, IsAsked, IsNotTaken, name_of}
+use Rattle.td_words.specs.Examples.{IsBatch, IsFormat, IsFeed}
+use Rattle.td_words.proofs.Only.{only_batch, only_feed, only_format, only_run}
 
 -- a number, as it is read
 module _ {E : Type 0} (bits : ℕ) (Reads : List ℕ → Result ℕ E → Type 0) (numbers : (t : List ℕ) (x : Result ℕ E) → Reads t x → ParsesUnsigned bits 10 t x) (f : Found) (id : Text) (r : Option ℕ)
@@ -39,6 +41,15 @@ module _ {E : Type 0} (bits : ℕ) (Reads : List ℕ → Result ℕ E → Type 0
           lacks n (e ∙ ap Some same) is.4 is.5
       by None e h = let d = is.3 in let upper = is.5 in numbers is.0 (Err h.0) h.1 (is.2, omega (arith, d, upper, fits))
 
+-- no number is read where there is none, nor where a test of the bounds refuses the one that is there
+pub none_there : (r : Option ℕ) → r ≡ None → (n : ℕ) → r ≡ Some n → ⊥
+none_there r is n other = cc
+
+pub refused_there : (r : Option ℕ) (v : ℕ) (test : Bool) (least most : ℕ) → r ≡ Some v → ((least ≤ v) × (v ≤ most) → IsTrue test) → test ≡ false → (n : ℕ) → r ≡ Some n → least ≤ n → n ≤ most → ⊥
+refused_there r v test least most is passes fails n other low high =
+    let same : n ≡ v = cc in
+    let passed = passes (subst (λ m. least ≤ m) same low, subst (λ m. m ≤ most) same high) in cc
+
 -- where there is nothing
 pub when_none : {A X : Type 0} (o : Option A) → o ≡ None → X → IfNone o X
 when_none {A} {X} o e x = subst (λ o. IfNone o X) (sym e) x
@@ -61,43 +72,6 @@ pub only_memory : (r : Result Job WordsError) (kind : ErrorKind) → IfOk r (λ 
 only_memory (Ok job) kind ok err e = let h = ok.1 in absurd cc
 only_memory (Err error) kind ok err e = elim err [ inl memory ↦ ap Err memory | inr h ↦ absurd (h.2 e) ]
 
--- the jobs of each name, and their values; that any other job has another name is computed from the two names
-pub only_batch : (rows : List Row) (job : Job) → IsOf (codes "batch") rows job → (c : Option (Bor Text)) × (job ≡ Batch c) × IsClosures rows c
-only_batch rows (Batch c) h = (c, refl, h.1)
-only_batch rows _ h = let other = ap (bytes_eq (codes "batch")) h.0 in cc
-
-pub only_run : (rows : List Row) (job : Job) → IsOf (codes "run") rows job → (w : ℕ) × (c : Option (Bor Text)) × (job ≡ Run w c) × IsWorkers rows w × IsClosures rows c
-only_run rows (Run w c) h = (w, c, refl, h.1.0, h.1.1)
-only_run rows _ h = let other = ap (bytes_eq (codes "run")) h.0 in cc
-
-pub only_sim : (rows : List Row) (job : Job) → IsOf (codes "sim") rows job → (w : ℕ) × (picks : Bor Text) × IsWorkers rows w × (first_of (codes "picks") rows ≡ Some picks.now)
-only_sim rows (Sim w picks c) h = (w, picks, h.1.0, h.1.1)
-only_sim rows _ h = let other = ap (bytes_eq (codes "sim")) h.0 in cc
-
-pub only_format : (rows : List Row) (job : Job) → IsOf (codes "format") rows job → (disk : Bor Text) × (plan : Bor Text) × (m : ℕ) × (n : ℕ) × (k : ℕ) × (c : Option (Bor Text)) × (job ≡ Format disk plan m n k c) × HasValues rows (Format disk plan m n k c)
-only_format rows (Format disk plan m n k c) h = (disk, plan, m, n, k, c, refl, h.1)
-only_format rows _ h = let other = ap (bytes_eq (codes "format")) h.0 in cc
-
-pub only_feed : (rows : List Row) (job : Job) → IsOf (codes "feed") rows job → (disk : Bor Text) × (plan : Bor Text) × (w : ℕ) × (job ≡ Feed disk plan w) × HasValues rows (Feed disk plan w)
-only_feed rows (Feed disk plan w) h = (disk, plan, w, refl, h.1)
-only_feed rows _ h = let other = ap (bytes_eq (codes "feed")) h.0 in cc
-
-pub only_show : (rows : List Row) (job : Job) → IsOf (codes "show") rows job → (disk : Bor Text) × (plan : Bor Text) × (live : Bool) × HasValues rows (Show disk plan live)
-only_show rows (Show disk plan live) h = (disk, plan, live, h.1)
-only_show rows _ h = let other = ap (bytes_eq (codes "show")) h.0 in cc
-
-pub only_dump : (rows : List Row) (job : Job) → IsOf (codes "dump") rows job → (disk : Bor Text) × (plan : Bor Text) × (live : Bool) × (at : Bool) × HasValues rows (Dump disk plan live at)
-only_dump rows (Dump disk plan live at) h = (disk, plan, live, at, h.1)
-only_dump rows _ h = let other = ap (bytes_eq (codes "dump")) h.0 in cc
-
-pub only_upgrade : (rows : List Row) (job : Job) → IsOf (codes "upgrade") rows job → (disk : Bor Text) × (plan : Bor Text) × HasValues rows (Upgrade disk plan)
-only_upgrade rows (Upgrade disk plan) h = (disk, plan, h.1)
-only_upgrade rows _ h = let other = ap (bytes_eq (codes "upgrade")) h.0 in cc
-
-pub only_plan : (rows : List Row) (job : Job) → IsOf (codes "plan") rows job → (plan : Bor Text) × (dot : Bool) × (c : Option (Bor Text)) × HasValues rows (Plan plan dot c)
-only_plan rows (Plan plan dot c) h = (plan, dot, c, h.1)
-only_plan rows _ h = let other = ap (bytes_eq (codes "plan")) h.0 in cc
-
 -- a value that is lacking
 pub lacks : (id : Text) (rows : List Row) (text : Text) → first_of id rows ≡ None → first_of id rows ≡ Some text → ⊥
 lacks id rows text none some = cc
@@ -113,8 +87,8 @@ asked_by words _ e n = (e, n)
 pub has_workers : (met : Option (Text × List Row)) (job : Job) → IsNamed met job → HasWorkers job
 has_workers met (Run w c) n = (n.2.0.4, n.2.0.5)
 has_workers met (Sim w picks c) n = (n.2.0.4, n.2.0.5)
-has_workers met (Feed disk plan w) n = (n.2.2.4, n.2.2.5)
-has_workers met (Stream disk plan w cut_every most progress marks refuse at hold room ask status copies) n = (n.2.2.4, n.2.2.5)
+has_workers met (Feed disk plan w) n = (n.2.1.4, n.2.1.5)
+has_workers met (Stream disk plan w cut_every most progress marks refuse at hold room ask status copies) n = (n.2.1.4, n.2.1.5)
 has_workers met _ n = tt
 
 -- help is asked for, where the parse failed with help
@@ -243,6 +217,14 @@ format_values rows = (first_of (codes "disk") rows, first_of (codes "plan") rows
 abbrev pub given_format : FormatValues
 given_format = (Some (codes "d"), Some (codes "p"), Some (codes "4"), Some (codes "2"), Some (codes "3"), None)
 
+-- the shape that is written so
+pub shape_there : (rows : List Row) → one_of (codes "m") rows ≡ Some (codes "4") → one_of (codes "n") rows ≡ Some (codes "2") → one_of (codes "k") rows ≡ Some (codes "3") → HasShape rows 4 2 3
+shape_there rows m n k = (
+  number_there (codes "m") 0 4294967295 rows (codes "4") 4 m four (omega arith) (omega arith),
+  number_there (codes "n") 0 4294967295 rows (codes "2") 2 n two (omega arith) (omega arith),
+  number_there (codes "k") 0 4294967295 rows (codes "3") 3 k three (omega arith) (omega arith),
+)
+
 pub format_met : (met : Option (Text × List Row)) → option_map (λ p. p.0) met ≡ Some (codes "format") → option_map (λ p. format_values p.1) met ≡ Some given_format → IsNamed met (Format (to (codes "d")) (to (codes "p")) 4 2 3 None)
 format_met met name values =
     let m = met_some met (codes "format") name in
@@ -250,11 +232,8 @@ format_met met name values =
       m.0,
       m.1,
       (
-        ap (λ (x : FormatValues). x.0) v,
-        ap (λ (x : FormatValues). x.1) v,
-        number_there (codes "m") 0 4294967295 m.0 (codes "4") 4 (ap (λ (x : FormatValues). x.2) v) four (omega arith) (omega arith),
-        number_there (codes "n") 0 4294967295 m.0 (codes "2") 2 (ap (λ (x : FormatValues). x.3) v) two (omega arith) (omega arith),
-        number_there (codes "k") 0 4294967295 m.0 (codes "3") 3 (ap (λ (x : FormatValues). x.4) v) three (omega arith) (omega arith),
+        (ap (λ (x : FormatValues). x.0) v, ap (λ (x : FormatValues). x.1) v),
+        shape_there m.0 (ap (λ (x : FormatValues). x.2) v) (ap (λ (x : FormatValues). x.3) v) (ap (λ (x : FormatValues). x.4) v),
         ap (λ (x : FormatValues). x.5) v,
       ),
     )
@@ -269,12 +248,12 @@ named_format met job n name values =
     let v = value_met format_values given_format met (codes "format") m.0 m.1 values in
     let has = only.7 in
     subst (IsFormat (codes "d") (codes "p") 4 2 3 None) (sym only.6) (
-      some_is only.0.now (codes "d") (first_of (codes "disk") m.0) has.0 (ap (λ (x : FormatValues). x.0) v),
-      some_is only.1.now (codes "p") (first_of (codes "plan") m.0) has.1 (ap (λ (x : FormatValues). x.1) v),
-      written (codes "m") 0 4294967295 m.0 (codes "4") only.2 has.2 (ap (λ (x : FormatValues). x.2) v),
-      written (codes "n") 0 4294967295 m.0 (codes "2") only.3 has.3 (ap (λ (x : FormatValues). x.3) v),
-      written (codes "k") 0 4294967295 m.0 (codes "3") only.4 has.4 (ap (λ (x : FormatValues). x.4) v),
-      sym has.5 ∙ ap (λ (x : FormatValues). x.5) v,
+      some_is only.0.now (codes "d") (first_of (codes "disk") m.0) has.0.0 (ap (λ (x : FormatValues). x.0) v),
+      some_is only.1.now (codes "p") (first_of (codes "plan") m.0) has.0.1 (ap (λ (x : FormatValues). x.1) v),
+      written (codes "m") 0 4294967295 m.0 (codes "4") only.2 has.1.0 (ap (λ (x : FormatValues). x.2) v),
+      written (codes "n") 0 4294967295 m.0 (codes "2") only.3 has.1.1 (ap (λ (x : FormatValues). x.3) v),
+      written (codes "k") 0 4294967295 m.0 (codes "3") only.4 has.1.2 (ap (λ (x : FormatValues). x.4) v),
+      sym has.2 ∙ ap (λ (x : FormatValues). x.5) v,
     )
 
 abbrev pub FeedValues : Type 0
@@ -293,8 +272,7 @@ feed_met met name values =
       m.0,
       m.1,
       (
-        ap (λ (x : FeedValues). x.0) v,
-        ap (λ (x : FeedValues). x.1) v,
+        (ap (λ (x : FeedValues). x.0) v, ap (λ (x : FeedValues). x.1) v),
         number_there (codes "workers") 1 16 m.0 (codes "1") 1 (ap (λ (x : FeedValues). x.2) v) one (omega arith) (omega arith),
       ),
     )
@@ -306,11 +284,7 @@ named_feed met job n name values =
     let v = value_met feed_values given_feed met (codes "feed") m.0 m.1 values in
     let has = only.4 in
     subst (IsFeed (codes "d") (codes "p") 1) (sym only.3) (
-      some_is only.0.now (codes "d") (first_of (codes "disk") m.0) has.0 (ap (λ (x : FeedValues). x.0) v),
-      some_is only.1.now (codes "p") (first_of (codes "plan") m.0) has.1 (ap (λ (x : FeedValues). x.1) v),
-      written (codes "workers") 1 16 m.0 (codes "1") only.2 has.2 (ap (λ (x : FeedValues). x.2) v),
+      some_is only.0.now (codes "d") (first_of (codes "disk") m.0) has.0.0 (ap (λ (x : FeedValues). x.0) v),
+      some_is only.1.now (codes "p") (first_of (codes "plan") m.0) has.0.1 (ap (λ (x : FeedValues). x.1) v),
+      written (codes "workers") 1 16 m.0 (codes "1") only.2 has.1 (ap (λ (x : FeedValues). x.2) v),
     )
-
--- for want of memory alone
-pub memory_alone : (r : Result Job WordsError) (P : Job → Type 0) → r ≡ Err Memory → IfOk r P × IfErr r (λ e. e ≡ Memory)
-memory_alone r P e = subst (λ r. IfOk r P × IfErr r (λ e. e ≡ Memory)) (sym e) (tt, refl)

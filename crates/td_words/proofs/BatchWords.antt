@@ -3,7 +3,8 @@ use Rattle.std.proofs.Common.{◌≡◌, refl, true, Some, None, codes, option_m
 use Rattle.clap.specs.Words.{is_simple, takes, subcommand_of, first_of}
 use Rattle.clap.specs.Faults.{is_simple_and_free}
 use Rattle.clap.proofs.OnLiterals.{clap_on_literals}
-use Rattle.td_words.specs.Command.{td, batch_words, written_words, run_words}
+use Rattle.td_words.specs.Command.{td}
+use Rattle.td_words.specs.Examples.{batch_words, written_words, run_words}
 use Rattle.td_words.proofs.Asked.{run_values, given_run}
 
 pub td_is_simple : is_simple td ≡ true

@@ -1,19 +1,13 @@
 -- What the matches of `td copy` ask for.
-use Rattle.std.proofs.Common.{◌≡◌, ℕ, List, Option, Some, option_map, refl, ap, sym, subst, arith, bytes_eq, codes}
-use Rattle.std.specs.Borrow.{Bor}
+use Rattle.std.proofs.Common.{◌≡◌, List, Option, Some, option_map, ap, sym, subst, arith, codes}
 use Rattle.clap.specs.Words.{Row, Text, one_of, first_of}
 use Rattle.td_words.specs.declared.job.Job.{Job}
 use Rattle.td_words.specs.declared.job.Job.TheVariants.{Copy}
-use Rattle.td_words.specs.Jobs.{IsOf}
-use Rattle.td_words.specs.Command.{IsNamed, HasValues, IsCopy}
-use Rattle.td_words.proofs.Asked.{met_some, met_of, value_met, written, two, three, four, number_there, some_is, to}
+use Rattle.td_words.specs.Command.{IsNamed}
+use Rattle.td_words.specs.Examples.{IsCopy}
+use Rattle.td_words.proofs.Asked.{met_some, met_of, value_met, written, four, shape_there, some_is, to}
 use Rattle.td_words.proofs.Options.{option_there, option_is}
-
--- the job of the name, and its values
-pub only_copy : (rows : List Row) (job : Job) → IsOf (codes "copy") rows job
-    → (disk : Bor Text) × (plan : Bor Text) × (new : Bor Text) × (m : ℕ) × (n : ℕ) × (k : ℕ) × (until : Option ℕ) × (job ≡ Copy disk plan new m n k until) × HasValues rows (Copy disk plan new m n k until)
-only_copy rows (Copy disk plan new m n k until) h = (disk, plan, new, m, n, k, until, refl, h.1)
-only_copy rows _ h = let other = ap (bytes_eq (codes "copy")) h.0 in cc
+use Rattle.td_words.proofs.Only.{only_copy}
 
 -- the values at given words
 abbrev pub CopyValues : Type 0
@@ -41,12 +35,9 @@ module _ (met : Option (Text × List Row)) (name : option_map (λ p. p.0) met �
         m.0,
         m.1,
         (
-          ap (λ (x : CopyValues). x.0) v,
-          ap (λ (x : CopyValues). x.1) v,
+          (ap (λ (x : CopyValues). x.0) v, ap (λ (x : CopyValues). x.1) v),
           ap (λ (x : CopyValues). x.2) v,
-          number_there (codes "m") 0 4294967295 m.0 (codes "4") 4 (ap (λ (x : CopyValues). x.3) v) four (omega arith) (omega arith),
-          number_there (codes "n") 0 4294967295 m.0 (codes "2") 2 (ap (λ (x : CopyValues). x.4) v) two (omega arith) (omega arith),
-          number_there (codes "k") 0 4294967295 m.0 (codes "3") 3 (ap (λ (x : CopyValues). x.5) v) three (omega arith) (omega arith),
+          shape_there m.0 (ap (λ (x : CopyValues). x.3) v) (ap (λ (x : CopyValues). x.4) v) (ap (λ (x : CopyValues). x.5) v),
           option_there (codes "until") 0 9223372036854775807 m.0 (Some (codes "4")) (Some 4) (four, omega arith, omega arith) (ap (λ (x : CopyValues). x.6) v),
         ),
       )
@@ -58,11 +49,11 @@ module _ (met : Option (Text × List Row)) (name : option_map (λ p. p.0) met �
       let v = value_met copy_values given_until met (codes "copy") m.0 m.1 values in
       let has = only.8 in
       subst (IsCopy (codes "d") (codes "p") (codes "e") 4 2 3 (Some 4)) (sym only.7) (
-        some_is only.0.now (codes "d") (first_of (codes "disk") m.0) has.0 (ap (λ (x : CopyValues). x.0) v),
-        some_is only.1.now (codes "p") (first_of (codes "plan") m.0) has.1 (ap (λ (x : CopyValues). x.1) v),
-        some_is only.2.now (codes "e") (first_of (codes "new") m.0) has.2 (ap (λ (x : CopyValues). x.2) v),
-        written (codes "m") 0 4294967295 m.0 (codes "4") only.3 has.3 (ap (λ (x : CopyValues). x.3) v),
-        written (codes "n") 0 4294967295 m.0 (codes "2") only.4 has.4 (ap (λ (x : CopyValues). x.4) v),
-        written (codes "k") 0 4294967295 m.0 (codes "3") only.5 has.5 (ap (λ (x : CopyValues). x.5) v),
-        option_is (codes "until") 0 9223372036854775807 m.0 (Some (codes "4")) (Some 4) (four, omega arith, omega arith) (ap (λ (x : CopyValues). x.6) v) only.6 has.6,
+        some_is only.0.now (codes "d") (first_of (codes "disk") m.0) has.0.0 (ap (λ (x : CopyValues). x.0) v),
+        some_is only.1.now (codes "p") (first_of (codes "plan") m.0) has.0.1 (ap (λ (x : CopyValues). x.1) v),
+        some_is only.2.now (codes "e") (first_of (codes "new") m.0) has.1 (ap (λ (x : CopyValues). x.2) v),
+        written (codes "m") 0 4294967295 m.0 (codes "4") only.3 has.2.0 (ap (λ (x : CopyValues). x.3) v),
+        written (codes "n") 0 4294967295 m.0 (codes "2") only.4 has.2.1 (ap (λ (x : CopyValues). x.4) v),
+        written (codes "k") 0 4294967295 m.0 (codes "3") only.5 has.2.2 (ap (λ (x : CopyValues). x.5) v),
+        option_is (codes "until") 0 9223372036854775807 m.0 (Some (codes "4")) (Some 4) (four, omega arith, omega arith) (ap (λ (x : CopyValues). x.6) v) only.6 has.3,
       )

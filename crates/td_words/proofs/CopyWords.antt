@@ -2,7 +2,8 @@
 use Rattle.std.proofs.Common.{◌≡◌, refl, true, Some, codes, option_map}
 use Rattle.clap.specs.Words.{takes, subcommand_of}
 use Rattle.clap.proofs.OnLiterals.{clap_on_literals}
-use Rattle.td_words.specs.Command.{td, until_words}
+use Rattle.td_words.specs.Command.{td}
+use Rattle.td_words.specs.Examples.{until_words}
 use Rattle.td_words.proofs.CopyAsked.{copy_values, given_until}
 
 pub until_is_taken : takes td until_words ≡ true

@@ -2,7 +2,8 @@
 use Rattle.std.proofs.Common.{◌≡◌, refl, true, Some, codes, option_map}
 use Rattle.clap.specs.Words.{takes, subcommand_of}
 use Rattle.clap.proofs.OnLiterals.{clap_on_literals}
-use Rattle.td_words.specs.Command.{td, format_words, feed_words}
+use Rattle.td_words.specs.Command.{td}
+use Rattle.td_words.specs.Examples.{format_words, feed_words}
 use Rattle.td_words.proofs.Asked.{format_values, given_format, feed_values, given_feed}
 
 pub format_is_taken : takes td format_words ≡ true

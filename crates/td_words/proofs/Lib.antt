@@ -1,10 +1,12 @@
 pub mod Asked
 pub mod BatchWords
+pub mod ByTd
 pub mod CopyAsked
 pub mod CopyWords
 pub mod DiskWords
-pub mod Leaves
-pub mod LoadAsked
+pub mod Examples
+pub mod Grown
+pub mod Only
 pub mod Options
 pub mod StreamAsked
 pub mod StreamWords

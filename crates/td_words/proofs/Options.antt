@@ -1,12 +1,12 @@
 -- Numbers that may be left out, as they are read, and as they are given.
-use Rattle.std.proofs.Common.{◌≡◌, ℕ, ◌<◌, ◌≤◌, ◌^◌, List, Option, Some, None, Result, Ok, Err, refl, ap, sym, ◌∙◌, subst}
+use Rattle.std.proofs.Common.{◌≡◌, ℕ, Bool, IsTrue, false, ◌<◌, ◌≤◌, ◌^◌, List, Option, Some, None, Result, Ok, Err, refl, ap, sym, ◌∙◌, subst}
 use Rattle.std.specs.Str.Parse.{ParsesUnsigned}
 use Rattle.clap.specs.declared.parser.matches.Found.{Found}
 use Rattle.clap.specs.Matches.{one_text, ReadsOne, TriesOne}
 use Rattle.clap.specs.Words.{Row, Text, one_of, rows_of}
 use Rattle.clap.proofs.WalkLemmas.{one_text-rows}
 use Rattle.td_words.specs.Command.{IsOption}
-use Rattle.td_words.proofs.Asked.{number_read, no_number, written, number_there, OneDigit}
+use Rattle.td_words.proofs.Asked.{number_read, no_number, refused_there, written, number_there, OneDigit}
 
 -- the number that was read, if it was
 abbrev read_of : {E : Type 0} → Result (Option ℕ) E → Option ℕ
@@ -40,6 +40,13 @@ module _ {E : Type 0} (bits : ℕ) (Reads : List ℕ → Result ℕ E → Type 0
       by : (r : Result (Option ℕ) E) (m : ℕ) → read_of r ≡ Some m → r ≡ Ok (Some m)
       by (Ok o) m e = ap Ok e
       by (Err error) m e = cc
+
+-- there is a number, and a test of the bounds refuses it
+pub some_there : {E : Type 0} (r : Result (Option ℕ) E) (v : ℕ) → r ≡ Ok (Some v) → r ≡ Ok None → ⊥
+some_there r v is other = cc
+
+pub refused_option : {E : Type 0} (r : Result (Option ℕ) E) (v : ℕ) (test : Bool) (least most : ℕ) → r ≡ Ok (Some v) → ((least ≤ v) × (v ≤ most) → IsTrue test) → test ≡ false → (n : ℕ) → r ≡ Ok (Some n) → least ≤ n → n ≤ most → ⊥
+refused_option r v test least most is passes fails n other = refused_there (read_of r) v test least most (ap read_of is) passes fails n (ap read_of other)
 
 -- the number that an option is given: none, or one of one digit
 abbrev pub Gives : ℕ → ℕ → Option Text → Option ℕ → Type 0

@@ -9,8 +9,10 @@ use Rattle.clap.proofs.WalkLemmas.{one_text-rows}
 use Rattle.td_words.specs.declared.job.Job.{Job}
 use Rattle.td_words.specs.declared.job.Job.TheVariants.{Stream}
 use Rattle.td_words.specs.Jobs.{IsOf}
-use Rattle.td_words.specs.Command.{IsNamed, HasValues, IsFlag, IsFile, flag_text, may_hold, IsStream}
+use Rattle.td_words.specs.Command.{IsNamed, HasValues, IsFlag, IsFile, flag_text, may_hold}
+use Rattle.td_words.specs.Examples.{IsStream}
 use Rattle.td_words.proofs.Asked.{met_some, met_of, value_met, written, one, four, five, number_there, some_is, to}
+use Rattle.td_words.proofs.Only.{differs}
 use Rattle.td_words.proofs.Options.{Gives, option_there, option_is}
 
 -- a flag, as it is read
@@ -50,7 +52,7 @@ stream_with f = Stream f.0 f.1 f.2 f.3 f.4 f.5 f.6 f.7 f.8 f.9 f.10 f.11 f.12 f.
 -- what holds of each job of the name by its values holds of a job that is named so
 pub only_stream : (rows : List Row) (P : Job → Type 0) → ((f : StreamFields) → HasValues rows (stream_with f) → P (stream_with f)) → (job : Job) → IsOf (codes "stream") rows job → P job
 only_stream rows P holds (Stream disk plan w every most told marks refuse at hold room ask status copies) h = holds (disk, plan, w, every, most, told, marks, refuse, at, hold, room, ask, status, copies) h.1
-only_stream rows P holds _ h = let other = ap (bytes_eq (codes "stream")) h.0 in cc
+only_stream rows P holds _ h = absurd (differs (ap (bytes_eq (codes "stream")) h.0))
 
 -- the values at given words
 abbrev pub StreamValues : Type 0
@@ -107,8 +109,7 @@ module _ (every_text most_text : Option Text) (every most : Option ℕ) (told ma
         m.0,
         m.1,
         (
-          ap (λ (x : StreamValues). x.0) v,
-          ap (λ (x : StreamValues). x.1) v,
+          (ap (λ (x : StreamValues). x.0) v, ap (λ (x : StreamValues). x.1) v),
           number_there (codes "workers") 1 16 m.0 (codes "1") 1 (ap (λ (x : StreamValues). x.2) v) one (omega arith) (omega arith),
           option_there (codes "cut-every") 1 65536 m.0 every_text every gives_every (ap (λ (x : StreamValues). x.3) v),
           option_there (codes "most") 1 9223372036854775807 m.0 most_text most gives_most (ap (λ (x : StreamValues). x.4) v),
@@ -130,20 +131,20 @@ module _ (every_text most_text : Option Text) (every most : Option ℕ) (told ma
       let m = met_of met (codes "stream") job n name in
       let v = value_met stream_values (given_stream every_text most_text told marks refuse at hold room ask status copies) met (codes "stream") m.0 m.1 values in
       only_stream m.0 (IsStream (codes "d") (codes "p") 1 every most told marks refuse at hold room ask status copies) (λ f has. (
-        some_is f.0.now (codes "d") (first_of (codes "disk") m.0) has.0 (ap (λ (x : StreamValues). x.0) v),
-        some_is f.1.now (codes "p") (first_of (codes "plan") m.0) has.1 (ap (λ (x : StreamValues). x.1) v),
-        written (codes "workers") 1 16 m.0 (codes "1") f.2 has.2 (ap (λ (x : StreamValues). x.2) v),
-        option_is (codes "cut-every") 1 65536 m.0 every_text every gives_every (ap (λ (x : StreamValues). x.3) v) f.3 has.3,
-        option_is (codes "most") 1 9223372036854775807 m.0 most_text most gives_most (ap (λ (x : StreamValues). x.4) v) f.4 has.4,
-        same_flag f.5 told (some_is (flag_text f.5) (flag_text told) (one_of (codes "progress") m.0) has.5 (ap (λ (x : StreamValues). x.5) v)),
-        same_flag f.6 marks (some_is (flag_text f.6) (flag_text marks) (one_of (codes "marks") m.0) has.6 (ap (λ (x : StreamValues). x.6) v)),
-        same_flag f.7 refuse (some_is (flag_text f.7) (flag_text refuse) (one_of (codes "refuse") m.0) has.7 (ap (λ (x : StreamValues). x.7) v)),
-        same_flag f.8 at (some_is (flag_text f.8) (flag_text at) (one_of (codes "at") m.0) has.8 (ap (λ (x : StreamValues). x.8) v)),
-        same_flag f.9 hold (some_is (flag_text f.9) (flag_text hold) (one_of (codes "hold") m.0) has.9 (ap (λ (x : StreamValues). x.9) v)),
-        same_flag f.10 room (some_is (flag_text f.10) (flag_text room) (one_of (codes "room") m.0) has.10 (ap (λ (x : StreamValues). x.10) v)),
-        same_flag f.11 ask (some_is (flag_text f.11) (flag_text ask) (one_of (codes "ask") m.0) has.11 (ap (λ (x : StreamValues). x.11) v)),
-        sym has.12 ∙ ap (λ (x : StreamValues). x.12) v,
-        sym has.13 ∙ ap (λ (x : StreamValues). x.13) v,
+        some_is f.0.now (codes "d") (first_of (codes "disk") m.0) has.0.0 (ap (λ (x : StreamValues). x.0) v),
+        some_is f.1.now (codes "p") (first_of (codes "plan") m.0) has.0.1 (ap (λ (x : StreamValues). x.1) v),
+        written (codes "workers") 1 16 m.0 (codes "1") f.2 has.1 (ap (λ (x : StreamValues). x.2) v),
+        option_is (codes "cut-every") 1 65536 m.0 every_text every gives_every (ap (λ (x : StreamValues). x.3) v) f.3 has.2,
+        option_is (codes "most") 1 9223372036854775807 m.0 most_text most gives_most (ap (λ (x : StreamValues). x.4) v) f.4 has.3,
+        same_flag f.5 told (some_is (flag_text f.5) (flag_text told) (one_of (codes "progress") m.0) has.4 (ap (λ (x : StreamValues). x.5) v)),
+        same_flag f.6 marks (some_is (flag_text f.6) (flag_text marks) (one_of (codes "marks") m.0) has.5 (ap (λ (x : StreamValues). x.6) v)),
+        same_flag f.7 refuse (some_is (flag_text f.7) (flag_text refuse) (one_of (codes "refuse") m.0) has.6 (ap (λ (x : StreamValues). x.7) v)),
+        same_flag f.8 at (some_is (flag_text f.8) (flag_text at) (one_of (codes "at") m.0) has.7 (ap (λ (x : StreamValues). x.8) v)),
+        same_flag f.9 hold (some_is (flag_text f.9) (flag_text hold) (one_of (codes "hold") m.0) has.8 (ap (λ (x : StreamValues). x.9) v)),
+        same_flag f.10 room (some_is (flag_text f.10) (flag_text room) (one_of (codes "room") m.0) has.9 (ap (λ (x : StreamValues). x.10) v)),
+        same_flag f.11 ask (some_is (flag_text f.11) (flag_text ask) (one_of (codes "ask") m.0) has.10 (ap (λ (x : StreamValues). x.11) v)),
+        sym has.11 ∙ ap (λ (x : StreamValues). x.12) v,
+        sym has.12 ∙ ap (λ (x : StreamValues). x.13) v,
       )) job m.2
 
 module _ (met : Option (Text × List Row)) (name : option_map (λ p. p.0) met ≡ Some (codes "stream")) where

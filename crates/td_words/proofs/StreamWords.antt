@@ -2,7 +2,8 @@
 use Rattle.std.proofs.Common.{◌≡◌, refl, true, false, Some, None, codes, option_map}
 use Rattle.clap.specs.Words.{takes, subcommand_of}
 use Rattle.clap.proofs.OnLiterals.{clap_on_literals}
-use Rattle.td_words.specs.Command.{td, stream_words, cutting_words, telling_words}
+use Rattle.td_words.specs.Command.{td}
+use Rattle.td_words.specs.Examples.{stream_words, cutting_words, telling_words}
 use Rattle.td_words.proofs.StreamAsked.{stream_values, given_stream}
 
 pub stream_is_taken : takes td stream_words ≡ true

@@ -1,9 +1,10 @@
 -- What clap makes of the program's words, of which the first is the program's name.
-use Rattle.std.specs.Prelude.{◌≡◌, ◌≢◌, ℕ, ◌≤◌, pos, List, [], ◌∷◌, Option, Some, None, option_map, Bool, true, false, ◌&&◌, ◌||◌, not, IsTrue, codes}
+use Rattle.std.specs.Prelude.{◌≡◌, ◌≢◌, ℕ, ◌≤◌, pos, List, [], ◌∷◌, ◌++◌, map, Option, Some, None, option_map, Bool, true, false, ◌&&◌, ◌||◌, not, IsTrue, codes}
 use Rattle.std.specs.Borrow.{Bor}
+use Rattle.std.specs.List.{fold}
 use Rattle.std.specs.Str.{bytes_eq}
 use Rattle.std.specs.Str.Parse.{IsNumeral, digits_value, without_leading_plus}
-use Rattle.clap.specs.Words.{App, Row, Rule, Text, new_app, new_rule, with_rule, with_subcommand, subcommand_of, one_of, first_of}
+use Rattle.clap.specs.Words.{App, Row, Rule, Shape, Text, new_app, new_rule, with_rule, with_subcommand, subcommand_of, one_of, first_of}
 use Rattle.clap.specs.Faults.{fault_of}
 use Rattle.clap.specs.Kinds.{IsAmong}
 use Rattle.clap.specs.declared.builder.value_parser.ValueParser.TheVariants as parser
@@ -12,124 +13,97 @@ use Rattle.clap.specs.declared.error.kind.ErrorKind.TheVariants.{DisplayHelp}
 use Rattle.td_words.specs.declared.job.Job.{Job}
 use Rattle.td_words.specs.declared.job.Job.TheVariants.{Batch, Run, Sim, Format, Feed, Show, Dump, Upgrade, Copy, States, Load, Stream, Plan, Help, Version, Faults, Language}
 
--- `--workers W`, a number of 1 to 16, and 1 where it is not given
-abbrev pub workers_rule : Rule
-workers_rule = record (new_rule (codes "workers")) {
-  long = Some (codes "workers");
-  value_names = 1;
-  defaults = codes "1" ∷ [];
-  parser = Some (parser.Signed (pos 1) (pos 16));
-}
-
--- `--picks LIST`, and `0` where it is not given
-abbrev pub picks_rule : Rule
-picks_rule = record (new_rule (codes "picks")) {
-  long = Some (codes "picks");
-  value_names = 1;
-  defaults = codes "0" ∷ [];
-}
+-- an argument with a value
+abbrev pub valued_rule : Text → Rule
+valued_rule id = record (new_rule id) { value_names = 1 }
 
 -- a word that has to stand there
 abbrev pub word_rule : Text → Rule
-word_rule id = record (new_rule id) { value_names = 1; required = true }
+word_rule id = record (valued_rule id) { required = true }
 
 -- a number that has to stand there, one that 32 bits hold
 abbrev pub number_rule : Text → Rule
 number_rule id = record (word_rule id) { parser = Some (parser.Unsigned 0 4294967295) }
 
+-- an option with a text, as the name of a file, which may be left out
+abbrev pub text_rule : Text → Rule
+text_rule id = record (valued_rule id) { long = Some id }
+
 -- an option with a number between these, which may be left out
 abbrev pub option_rule : Text → ℕ → ℕ → Rule
-option_rule id least most = record (new_rule id) { long = Some id; value_names = 1; parser = Some (parser.Unsigned least most) }
+option_rule id least most = record (text_rule id) { parser = Some (parser.Unsigned least most) }
 
--- `--cut-every E`, a number of 1 to 65536
-abbrev pub cut_every_rule : Rule
-cut_every_rule = option_rule (codes "cut-every") 1 65536
+-- `--workers W`, a number of 1 to 16, and 1 where it is not given
+abbrev pub workers_rule : Rule
+workers_rule = record (text_rule (codes "workers")) { parser = Some (parser.Signed (pos 1) (pos 16)); defaults = codes "1" ∷ [] }
 
--- `--until E`, a number of 0 to 2^63 - 1
-abbrev pub until_rule : Rule
-until_rule = option_rule (codes "until") 0 9223372036854775807
-
--- `--most R`, a number of 1 to 2^63 - 1
-abbrev pub most_rule : Rule
-most_rule = option_rule (codes "most") 1 9223372036854775807
+-- `--picks LIST`, and `0` where it is not given
+abbrev pub picks_rule : Rule
+picks_rule = record (text_rule (codes "picks")) { defaults = codes "0" ∷ [] }
 
 -- a flag, as `--progress`
 abbrev pub flag_rule : Text → Rule
 flag_rule id = record (new_rule id) { long = Some id; action = Some SetTrue }
 
--- an option with the name of a file, which may be left out
-abbrev pub file_rule : Text → Rule
-file_rule id = record (new_rule id) { long = Some id; value_names = 1 }
-
 -- `--closures FILE`
 abbrev pub closures_rule : Rule
-closures_rule = file_rule (codes "closures")
+closures_rule = text_rule (codes "closures")
 
--- `--map LIST`
-abbrev pub map_rule : Rule
-map_rule = file_rule (codes "map")
+-- the words DISK and PLAN, and the numbers M, N and K
+abbrev pub file_rules : List Rule
+file_rules = word_rule (codes "disk") ∷ word_rule (codes "plan") ∷ []
 
--- `--status FILE`
-abbrev pub status_rule : Rule
-status_rule = file_rule (codes "status")
+abbrev pub shape_rules : List Rule
+shape_rules = number_rule (codes "m") ∷ number_rule (codes "n") ∷ number_rule (codes "k") ∷ []
 
--- `--copies FOLDER`
-abbrev pub copies_rule : Rule
-copies_rule = file_rule (codes "copies")
+-- the flags of `stream`
+abbrev pub stream_flag_rules : List Rule
+stream_flag_rules = flag_rule (codes "progress") ∷ flag_rule (codes "marks") ∷ flag_rule (codes "refuse") ∷ flag_rule (codes "at") ∷ flag_rule (codes "hold") ∷ flag_rule (codes "room") ∷ flag_rule (codes "ask") ∷ []
 
--- the subcommands
-abbrev pub batch_app : App
-batch_app = with_rule (new_app (codes "batch")) closures_rule
+-- a subcommand: its name, and the rules of its arguments in turn
+abbrev pub Subcommand : Type 0
+Subcommand = Text × List Rule
 
-abbrev pub run_app : App
-run_app = with_rule (with_rule (new_app (codes "run")) workers_rule) closures_rule
+-- the subcommands, in the order in which help lists them
+abbrev pub batch_to_sim : List Subcommand
+batch_to_sim =
+    (codes "batch", closures_rule ∷ [])
+    ∷ (codes "run", workers_rule ∷ closures_rule ∷ [])
+    ∷ (codes "sim", workers_rule ∷ picks_rule ∷ closures_rule ∷ [])
+    ∷ []
 
-abbrev pub sim_app : App
-sim_app = with_rule (with_rule (with_rule (new_app (codes "sim")) workers_rule) picks_rule) closures_rule
+abbrev pub format_to_upgrade : List Subcommand
+format_to_upgrade =
+    (codes "format", file_rules ++ shape_rules ++ closures_rule ∷ [])
+    ∷ (codes "feed", file_rules ++ workers_rule ∷ [])
+    ∷ (codes "show", file_rules ++ flag_rule (codes "live") ∷ [])
+    ∷ (codes "dump", file_rules ++ flag_rule (codes "live") ∷ flag_rule (codes "at") ∷ [])
+    ∷ (codes "upgrade", file_rules)
+    ∷ []
 
-abbrev pub with_files : App → App
-with_files app = with_rule (with_rule app (word_rule (codes "disk"))) (word_rule (codes "plan"))
+abbrev pub copy_to_load : List Subcommand
+copy_to_load =
+    (codes "copy", file_rules ++ word_rule (codes "new") ∷ shape_rules ++ option_rule (codes "until") 0 9223372036854775807 ∷ [])
+    ∷ (codes "states", file_rules)
+    ∷ (codes "load", word_rule (codes "new") ∷ word_rule (codes "plan") ∷ shape_rules ++ text_rule (codes "map") ∷ closures_rule ∷ [])
+    ∷ []
 
-abbrev pub with_shape : App → App
-with_shape app = with_rule (with_rule (with_rule app (number_rule (codes "m"))) (number_rule (codes "n"))) (number_rule (codes "k"))
+abbrev pub stream_and_plan : List Subcommand
+stream_and_plan =
+    (codes "stream", file_rules ++ workers_rule ∷ option_rule (codes "cut-every") 1 65536 ∷ option_rule (codes "most") 1 9223372036854775807 ∷ stream_flag_rules ++ text_rule (codes "status") ∷ text_rule (codes "copies") ∷ [])
+    ∷ (codes "plan", word_rule (codes "plan") ∷ flag_rule (codes "dot") ∷ closures_rule ∷ [])
+    ∷ []
 
-abbrev pub format_app : App
-format_app = with_rule (with_shape (with_files (new_app (codes "format")))) closures_rule
-
-abbrev pub feed_app : App
-feed_app = with_rule (with_files (new_app (codes "feed"))) workers_rule
-
-abbrev pub show_app : App
-show_app = with_rule (with_files (new_app (codes "show"))) (flag_rule (codes "live"))
-
-abbrev pub dump_app : App
-dump_app = with_rule (with_rule (with_files (new_app (codes "dump"))) (flag_rule (codes "live"))) (flag_rule (codes "at"))
-
-abbrev pub upgrade_app : App
-upgrade_app = with_files (new_app (codes "upgrade"))
-
-abbrev pub copy_app : App
-copy_app = with_rule (with_shape (with_rule (with_files (new_app (codes "copy"))) (word_rule (codes "new")))) until_rule
-
-abbrev pub states_app : App
-states_app = with_files (new_app (codes "states"))
-
-abbrev pub load_app : App
-load_app = with_rule (with_rule (with_shape (with_rule (with_rule (new_app (codes "load")) (word_rule (codes "new"))) (word_rule (codes "plan")))) map_rule) closures_rule
-
-abbrev pub stream_app : App
-stream_app = with_rule (with_rule (with_rule (with_rule (with_rule (with_rule (with_rule (with_rule (with_rule (with_rule (with_rule (with_rule (with_files (new_app (codes "stream"))) workers_rule) cut_every_rule) most_rule) (flag_rule (codes "progress")))
-    (flag_rule (codes "marks"))) (flag_rule (codes "refuse"))) (flag_rule (codes "at"))) (flag_rule (codes "hold"))) (flag_rule (codes "room"))) (flag_rule (codes "ask"))) status_rule) copies_rule
-
-abbrev pub plan_app : App
-plan_app = with_rule (with_rule (with_rule (new_app (codes "plan")) (word_rule (codes "plan"))) (flag_rule (codes "dot"))) closures_rule
+-- a subcommand, as clap has it
+abbrev pub leaf_shape : Subcommand → Shape
+leaf_shape s = (fold with_rule (new_app s.0) s.1).top
 
 -- `td`, which needs one of them
 abbrev pub alone : App
 alone = let named = new_app (codes "td") in record named { top = record named.top { subcommand_required = true } }
 
 abbrev pub td : App
-td = with_subcommand (with_subcommand (with_subcommand (with_subcommand (with_subcommand (with_subcommand (with_subcommand (with_subcommand (with_subcommand (with_subcommand (with_subcommand (with_subcommand (with_subcommand alone batch_app.top) run_app.top) sim_app.top) format_app.top) feed_app.top) show_app.top) dump_app.top) upgrade_app.top) copy_app.top) states_app.top) load_app.top) stream_app.top) plan_app.top
+td = fold with_subcommand alone (map leaf_shape (batch_to_sim ++ format_to_upgrade ++ copy_to_load ++ stream_and_plan))
 
 -- the words that ask for the program's name and version, `--version` or `-V`, and those that ask for the text on faults, `help faults`,
 -- and for that on closures in text, `help closures`: clap has no part in these
@@ -144,33 +118,6 @@ asks_faults _ = false
 abbrev pub asks_language : List Text → Bool
 asks_language (name ∷ help ∷ about ∷ []) = bytes_eq help (codes "help") && bytes_eq about (codes "closures")
 asks_language _ = false
-
-abbrev pub batch_words : List (List ℕ)
-batch_words = codes "td" ∷ codes "batch" ∷ []
-
-abbrev pub written_words : List (List ℕ)
-written_words = codes "td" ∷ codes "batch" ∷ codes "--closures" ∷ codes "c" ∷ []
-
-abbrev pub run_words : List (List ℕ)
-run_words = codes "td" ∷ codes "run" ∷ []
-
-abbrev pub format_words : List (List ℕ)
-format_words = codes "td" ∷ codes "format" ∷ codes "d" ∷ codes "p" ∷ codes "4" ∷ codes "2" ∷ codes "3" ∷ []
-
-abbrev pub feed_words : List (List ℕ)
-feed_words = codes "td" ∷ codes "feed" ∷ codes "d" ∷ codes "p" ∷ []
-
-abbrev pub until_words : List (List ℕ)
-until_words = codes "td" ∷ codes "copy" ∷ codes "d" ∷ codes "p" ∷ codes "e" ∷ codes "4" ∷ codes "2" ∷ codes "3" ∷ codes "--until" ∷ codes "4" ∷ []
-
-abbrev pub stream_words : List (List ℕ)
-stream_words = codes "td" ∷ codes "stream" ∷ codes "d" ∷ codes "p" ∷ []
-
-abbrev pub cutting_words : List (List ℕ)
-cutting_words = codes "td" ∷ codes "stream" ∷ codes "d" ∷ codes "p" ∷ codes "--cut-every" ∷ codes "4" ∷ codes "--most" ∷ codes "5" ∷ []
-
-abbrev pub telling_words : List (List ℕ)
-telling_words = codes "td" ∷ codes "stream" ∷ codes "d" ∷ codes "p" ∷ codes "--progress" ∷ codes "--marks" ∷ codes "--refuse" ∷ codes "--at" ∷ codes "--hold" ∷ codes "--room" ∷ codes "--ask" ∷ codes "--status" ∷ codes "s" ∷ codes "--copies" ∷ codes "f" ∷ []
 
 -- the number that a subcommand has at a name, where clap says so: in decimal, as Rust reads it, and between these
 abbrev pub IsNumber : Text → ℕ → ℕ → List Row → ℕ → Type 0
@@ -242,28 +189,28 @@ name_of Language = codes "closures"
 abbrev pub may_hold : Bool → Bool → Bool
 may_hold marks hold = marks || not hold
 
+-- the files DISK and PLAN, and the numbers M, N and K
+abbrev pub HasFiles : List Row → Bor Text → Bor Text → Type 0
+HasFiles rows disk plan = (first_of (codes "disk") rows ≡ Some disk.now) × (first_of (codes "plan") rows ≡ Some plan.now)
+
+abbrev pub HasShape : List Row → ℕ → ℕ → ℕ → Type 0
+HasShape rows m n k = IsNumber (codes "m") 0 4294967295 rows m × IsNumber (codes "n") 0 4294967295 rows n × IsNumber (codes "k") 0 4294967295 rows k
+
 abbrev pub HasValues : List Row → Job → Type 0
 HasValues rows (Batch closures) = IsClosures rows closures
 HasValues rows (Run workers closures) = IsWorkers rows workers × IsClosures rows closures
 HasValues rows (Sim workers picks closures) = IsWorkers rows workers × (first_of (codes "picks") rows ≡ Some picks.now) × IsClosures rows closures
-HasValues rows (Format disk plan m n k closures) = (first_of (codes "disk") rows ≡ Some disk.now) × (first_of (codes "plan") rows ≡ Some plan.now)
-    × IsNumber (codes "m") 0 4294967295 rows m × IsNumber (codes "n") 0 4294967295 rows n × IsNumber (codes "k") 0 4294967295 rows k
-    × IsClosures rows closures
-HasValues rows (Feed disk plan workers) = (first_of (codes "disk") rows ≡ Some disk.now) × (first_of (codes "plan") rows ≡ Some plan.now) × IsWorkers rows workers
-HasValues rows (Show disk plan live) = (first_of (codes "disk") rows ≡ Some disk.now) × (first_of (codes "plan") rows ≡ Some plan.now) × IsFlag (codes "live") rows live
-HasValues rows (Dump disk plan live at) = (first_of (codes "disk") rows ≡ Some disk.now) × (first_of (codes "plan") rows ≡ Some plan.now) × IsFlag (codes "live") rows live × IsFlag (codes "at") rows at
-HasValues rows (Upgrade disk plan) = (first_of (codes "disk") rows ≡ Some disk.now) × (first_of (codes "plan") rows ≡ Some plan.now)
-HasValues rows (Copy disk plan new m n k until) = (first_of (codes "disk") rows ≡ Some disk.now) × (first_of (codes "plan") rows ≡ Some plan.now)
-    × (first_of (codes "new") rows ≡ Some new.now)
-    × IsNumber (codes "m") 0 4294967295 rows m × IsNumber (codes "n") 0 4294967295 rows n × IsNumber (codes "k") 0 4294967295 rows k
-    × IsUntil rows until
-HasValues rows (States disk plan) = (first_of (codes "disk") rows ≡ Some disk.now) × (first_of (codes "plan") rows ≡ Some plan.now)
-HasValues rows (Load new plan m n k map closures) = (first_of (codes "new") rows ≡ Some new.now) × (first_of (codes "plan") rows ≡ Some plan.now)
-    × IsNumber (codes "m") 0 4294967295 rows m × IsNumber (codes "n") 0 4294967295 rows n × IsNumber (codes "k") 0 4294967295 rows k
-    × IsMap rows map × IsClosures rows closures
-HasValues rows (Stream disk plan workers cut_every most progress marks refuse at hold room ask status copies) = (first_of (codes "disk") rows ≡ Some disk.now) × (first_of (codes "plan") rows ≡ Some plan.now)
-    × IsWorkers rows workers × IsCutEvery rows cut_every × IsMost rows most × IsFlag (codes "progress") rows progress × IsFlag (codes "marks") rows marks × IsFlag (codes "refuse") rows refuse
-    × IsFlag (codes "at") rows at × IsFlag (codes "hold") rows hold × IsFlag (codes "room") rows room × IsFlag (codes "ask") rows ask × IsFile (codes "status") rows status × IsFile (codes "copies") rows copies × (may_hold marks hold ≡ true)
+HasValues rows (Format disk plan m n k closures) = HasFiles rows disk plan × HasShape rows m n k × IsClosures rows closures
+HasValues rows (Feed disk plan workers) = HasFiles rows disk plan × IsWorkers rows workers
+HasValues rows (Show disk plan live) = HasFiles rows disk plan × IsFlag (codes "live") rows live
+HasValues rows (Dump disk plan live at) = HasFiles rows disk plan × IsFlag (codes "live") rows live × IsFlag (codes "at") rows at
+HasValues rows (Upgrade disk plan) = HasFiles rows disk plan
+HasValues rows (Copy disk plan new m n k until) = HasFiles rows disk plan × (first_of (codes "new") rows ≡ Some new.now) × HasShape rows m n k × IsUntil rows until
+HasValues rows (States disk plan) = HasFiles rows disk plan
+HasValues rows (Load new plan m n k map closures) = (first_of (codes "new") rows ≡ Some new.now) × (first_of (codes "plan") rows ≡ Some plan.now) × HasShape rows m n k × IsMap rows map × IsClosures rows closures
+HasValues rows (Stream disk plan workers cut_every most progress marks refuse at hold room ask status copies) = HasFiles rows disk plan × IsWorkers rows workers × IsCutEvery rows cut_every × IsMost rows most
+    × IsFlag (codes "progress") rows progress × IsFlag (codes "marks") rows marks × IsFlag (codes "refuse") rows refuse × IsFlag (codes "at") rows at × IsFlag (codes "hold") rows hold × IsFlag (codes "room") rows room × IsFlag (codes "ask") rows ask
+    × IsFile (codes "status") rows status × IsFile (codes "copies") rows copies × (may_hold marks hold ≡ true)
 HasValues rows (Plan plan dot closures) = (first_of (codes "plan") rows ≡ Some plan.now) × IsFlag (codes "dot") rows dot × IsClosures rows closures
 HasValues rows (Help text) = ⊥
 HasValues rows Version = ⊥
@@ -297,25 +244,3 @@ IsNotTaken words = ((job : Job) → IsNamed (subcommand_of td words) job → fau
 -- nor for another text
 abbrev pub IsRefused : List (List ℕ) → Type 0
 IsRefused words = IsNotTaken words × (asks_version words ≡ false) × (asks_faults words ≡ false) × (asks_language words ≡ false)
-
--- a batch with these values, a formatting, a feed, a copy, and a feed as its lines come
-abbrev pub IsBatch : Option Text → Job → Type 0
-IsBatch c (Batch closures) = option_map (λ f. f.now) closures ≡ c
-IsBatch c _ = ⊥
-
-abbrev pub IsFormat : Text → Text → ℕ → ℕ → ℕ → Option Text → Job → Type 0
-IsFormat a b x y z c (Format disk plan m n k closures) = (disk.now ≡ a) × (plan.now ≡ b) × (m ≡ x) × (n ≡ y) × (k ≡ z) × (option_map (λ f. f.now) closures ≡ c)
-IsFormat a b x y z c _ = ⊥
-
-abbrev pub IsFeed : Text → Text → ℕ → Job → Type 0
-IsFeed a b w (Feed disk plan workers) = (disk.now ≡ a) × (plan.now ≡ b) × (workers ≡ w)
-IsFeed a b w _ = ⊥
-
-abbrev pub IsCopy : Text → Text → Text → ℕ → ℕ → ℕ → Option ℕ → Job → Type 0
-IsCopy a b c x y z e (Copy disk plan new m n k until) = (disk.now ≡ a) × (plan.now ≡ b) × (new.now ≡ c) × (m ≡ x) × (n ≡ y) × (k ≡ z) × (until ≡ e)
-IsCopy a b c x y z e _ = ⊥
-
-abbrev pub IsStream : Text → Text → ℕ → Option ℕ → Option ℕ → Bool → Bool → Bool → Bool → Bool → Bool → Bool → Option Text → Option Text → Job → Type 0
-IsStream a b w e r t s f p h o k u v (Stream disk plan workers cut_every most progress marks refuse at hold room ask status copies) = (disk.now ≡ a) × (plan.now ≡ b) × (workers ≡ w) × (cut_every ≡ e) × (most ≡ r) × (progress ≡ t) × (marks ≡ s) × (refuse ≡ f)
-    × (at ≡ p) × (hold ≡ h) × (room ≡ o) × (ask ≡ k) × (option_map (λ file. file.now) status ≡ u) × (option_map (λ folder. folder.now) copies ≡ v)
-IsStream a b w e r t s f p h o k u v _ = ⊥

@@ -1,3 +1,5 @@
 pub mod Command
+pub mod Examples
 pub mod Jobs
+pub mod Table
 pub mod Wait

@@ -6,8 +6,10 @@
 #![tactic(auto)]
 
 mod commands;
+mod help;
 mod job;
 mod parse;
+mod table;
 mod wait;
 
 pub use job::{Job, WordsError};

@@ -1,16 +1,17 @@
 //! What the program is asked to do, from the words that it is given.
 ghost use Rattle.std.specs.Prelude.{◌≡◌, ◌≢◌, ◌⊎◌, ◌↔◌, ◌≤◌, ℕ, Bool, true, false, IsTrue, IfOk, IfErr, IfSome, IfNone, map, string_bytes};
-ghost use Rattle.std.specs.Prelude.{Option, Ok, Err, Some, None, codes};
-ghost use Rattle.clap.specs.Words.{found_of, first_of, kind_of, rows_of, subcommand_rows_of};
+ghost use Rattle.std.specs.Prelude.{Option, Ok, Some, None, codes};
+ghost use Rattle.std.specs.Borrow.{Bor};
+ghost use Rattle.clap.specs.Words.{Text, found_of, first_of, kind_of, rows_of, subcommand_rows_of};
 ghost use Rattle.td_words.specs.declared.job.Job.{Job as AnyJob};
-ghost use Rattle.td_words.specs.Command.{batch_words, run_words, format_words, feed_words, IsAsked, IsNamed, IsNumber};
-ghost use Rattle.td_words.specs.Command.{IsWorkers, HasWorkers, IsRefused, IsNotTaken, IsFormat, IsFeed, IsCopy, asks_version, asks_faults};
-ghost use Rattle.td_words.specs.Command.{written_words, asks_language, IsBatch, IsFile};
-ghost use Rattle.td_words.specs.Command.{until_words, stream_words, cutting_words, telling_words, IsOption, IsCutEvery, IsFlag, may_hold, IsStream};
+ghost use Rattle.td_words.specs.Command.{asks_version, asks_faults, asks_language, IsAsked, IsNamed, IsRefused, IsNotTaken};
+ghost use Rattle.td_words.specs.Command.{IsNumber, IsWorkers, HasWorkers, IsOption, IsCutEvery, IsFlag, IsFile, HasFiles, HasShape, may_hold};
+ghost use Rattle.td_words.specs.Examples.{Examples};
 ghost use Rattle.td_words.specs.Jobs.{IsHelp, IsOf, IsTextAsked};
 
-use crate::commands::{GREATEST, command};
+use crate::commands::command;
 use crate::job::{Job, WordsError};
+use crate::table::GREATEST;
 use clap::error::ErrorKind;
 use clap::{ArgMatches, Error};
 use std::alloc::Global;
@@ -28,15 +29,7 @@ pub fn words<'a>(alloc: Global, given: &'a [String]) -> Result<Job<'a>, WordsErr
     ensures ok { IfOk result (IsAsked (map string_bytes given.entry.now)) }
     ensures workers { IfOk result HasWorkers }
     ensures err { IfErr result (λ e. (e ≡ WordsError.Memory) ⊎ ((e ≡ WordsError.Words) × IsRefused (map string_bytes given.entry.now))) }
-    ensures batch { map string_bytes given.entry.now ≡ batch_words → (result ≡ Ok (Job.Batch None)) ⊎ (result ≡ Err WordsError.Memory) }
-    ensures run { map string_bytes given.entry.now ≡ run_words → (result ≡ Ok (Job.Run 1 None)) ⊎ (result ≡ Err WordsError.Memory) }
-    ensures written { map string_bytes given.entry.now ≡ written_words → IfOk result (IsBatch (Some (codes "c"))) × IfErr result (λ e. e ≡ WordsError.Memory) }
-    ensures format { map string_bytes given.entry.now ≡ format_words → IfOk result (IsFormat (codes "d") (codes "p") 4 2 3 None) × IfErr result (λ e. e ≡ WordsError.Memory) }
-    ensures feed { map string_bytes given.entry.now ≡ feed_words → IfOk result (IsFeed (codes "d") (codes "p") 1) × IfErr result (λ e. e ≡ WordsError.Memory) }
-    ensures until { map string_bytes given.entry.now ≡ until_words → IfOk result (IsCopy (codes "d") (codes "p") (codes "e") 4 2 3 (Some 4)) × IfErr result (λ e. e ≡ WordsError.Memory) }
-    ensures stream { map string_bytes given.entry.now ≡ stream_words → IfOk result (IsStream (codes "d") (codes "p") 1 None None false false false false false false false None None) × IfErr result (λ e. e ≡ WordsError.Memory) }
-    ensures cutting { map string_bytes given.entry.now ≡ cutting_words → IfOk result (IsStream (codes "d") (codes "p") 1 (Some 4) (Some 5) false false false false false false false None None) × IfErr result (λ e. e ≡ WordsError.Memory) }
-    ensures telling { map string_bytes given.entry.now ≡ telling_words → IfOk result (IsStream (codes "d") (codes "p") 1 None None true true true true true true true (Some (codes "s")) (Some (codes "f"))) × IfErr result (λ e. e ≡ WordsError.Memory) }
+    ensures examples { Examples (map string_bytes given.entry.now) result }
     ensures version { asks_version (map string_bytes given.entry.now) ≡ true → result ≡ Ok Job.Version }
     ensures faults { asks_faults (map string_bytes given.entry.now) ≡ true → result ≡ Ok Job.Faults }
     ensures language { asks_language (map string_bytes given.entry.now) ≡ true → result ≡ Ok Job.Language }
@@ -100,15 +93,7 @@ fn parsed<'a>(alloc: Global, given: &'a [String]) -> Result<Job<'a>, WordsError>
     ensures ok { IfOk result (IsAsked (map string_bytes given.entry.now)) }
     ensures workers { IfOk result HasWorkers }
     ensures err { IfErr result (λ e. (e ≡ WordsError.Memory) ⊎ ((e ≡ WordsError.Words) × IsNotTaken (map string_bytes given.entry.now))) }
-    ensures batch { map string_bytes given.entry.now ≡ batch_words → (result ≡ Ok (Job.Batch None)) ⊎ (result ≡ Err WordsError.Memory) }
-    ensures run { map string_bytes given.entry.now ≡ run_words → (result ≡ Ok (Job.Run 1 None)) ⊎ (result ≡ Err WordsError.Memory) }
-    ensures written { map string_bytes given.entry.now ≡ written_words → IfOk result (IsBatch (Some (codes "c"))) × IfErr result (λ e. e ≡ WordsError.Memory) }
-    ensures format { map string_bytes given.entry.now ≡ format_words → IfOk result (IsFormat (codes "d") (codes "p") 4 2 3 None) × IfErr result (λ e. e ≡ WordsError.Memory) }
-    ensures feed { map string_bytes given.entry.now ≡ feed_words → IfOk result (IsFeed (codes "d") (codes "p") 1) × IfErr result (λ e. e ≡ WordsError.Memory) }
-    ensures until { map string_bytes given.entry.now ≡ until_words → IfOk result (IsCopy (codes "d") (codes "p") (codes "e") 4 2 3 (Some 4)) × IfErr result (λ e. e ≡ WordsError.Memory) }
-    ensures stream { map string_bytes given.entry.now ≡ stream_words → IfOk result (IsStream (codes "d") (codes "p") 1 None None false false false false false false false None None) × IfErr result (λ e. e ≡ WordsError.Memory) }
-    ensures cutting { map string_bytes given.entry.now ≡ cutting_words → IfOk result (IsStream (codes "d") (codes "p") 1 (Some 4) (Some 5) false false false false false false false None None) × IfErr result (λ e. e ≡ WordsError.Memory) }
-    ensures telling { map string_bytes given.entry.now ≡ telling_words → IfOk result (IsStream (codes "d") (codes "p") 1 None None true true true true true true true (Some (codes "s")) (Some (codes "f"))) × IfErr result (λ e. e ≡ WordsError.Memory) }
+    ensures examples { Examples (map string_bytes given.entry.now) result }
 {
     let Ok(command) = command(alloc) else {
         return Err(WordsError::Memory);
@@ -194,11 +179,8 @@ fn format_job<'a>(matches: &ArgMatches<'a>) -> Option<Job<'a>>
     ensures some { IfSome result (IsOf (codes "format") (rows_of (found_of matches.now))) }
     ensures none { IfNone result ((job : AnyJob) → IsOf (codes "format") (rows_of (found_of matches.now)) job → ⊥) }
 {
-    let disk = word_of(matches, "disk")?;
-    let plan = word_of(matches, "plan")?;
-    let m = number_of(matches, "m")?;
-    let n = number_of(matches, "n")?;
-    let k = number_of(matches, "k")?;
+    let (disk, plan) = files_of(matches)?;
+    let (m, n, k) = shape_of(matches)?;
     let closures = file_of(matches, "closures");
     Some(Job::Format {
         disk,
@@ -215,8 +197,7 @@ fn feed_job<'a>(matches: &ArgMatches<'a>) -> Option<Job<'a>>
     ensures some { IfSome result (IsOf (codes "feed") (rows_of (found_of matches.now))) }
     ensures none { IfNone result ((job : AnyJob) → IsOf (codes "feed") (rows_of (found_of matches.now)) job → ⊥) }
 {
-    let disk = word_of(matches, "disk")?;
-    let plan = word_of(matches, "plan")?;
+    let (disk, plan) = files_of(matches)?;
     let workers = workers_of(matches)?;
     Some(Job::Feed {
         disk,
@@ -230,8 +211,7 @@ fn show_job<'a>(matches: &ArgMatches<'a>) -> Option<Job<'a>>
     ensures some { IfSome result (IsOf (codes "show") (rows_of (found_of matches.now))) }
     ensures none { IfNone result ((job : AnyJob) → IsOf (codes "show") (rows_of (found_of matches.now)) job → ⊥) }
 {
-    let disk = word_of(matches, "disk")?;
-    let plan = word_of(matches, "plan")?;
+    let (disk, plan) = files_of(matches)?;
     let live = flag_of(matches, "live")?;
     Some(Job::Show { disk, plan, live })
 }
@@ -241,8 +221,7 @@ fn dump_job<'a>(matches: &ArgMatches<'a>) -> Option<Job<'a>>
     ensures some { IfSome result (IsOf (codes "dump") (rows_of (found_of matches.now))) }
     ensures none { IfNone result ((job : AnyJob) → IsOf (codes "dump") (rows_of (found_of matches.now)) job → ⊥) }
 {
-    let disk = word_of(matches, "disk")?;
-    let plan = word_of(matches, "plan")?;
+    let (disk, plan) = files_of(matches)?;
     let live = flag_of(matches, "live")?;
     let at = flag_of(matches, "at")?;
     Some(Job::Dump {
@@ -258,8 +237,7 @@ fn upgrade_job<'a>(matches: &ArgMatches<'a>) -> Option<Job<'a>>
     ensures some { IfSome result (IsOf (codes "upgrade") (rows_of (found_of matches.now))) }
     ensures none { IfNone result ((job : AnyJob) → IsOf (codes "upgrade") (rows_of (found_of matches.now)) job → ⊥) }
 {
-    let disk = word_of(matches, "disk")?;
-    let plan = word_of(matches, "plan")?;
+    let (disk, plan) = files_of(matches)?;
     Some(Job::Upgrade { disk, plan })
 }
 
@@ -268,12 +246,9 @@ fn copy_job<'a>(matches: &ArgMatches<'a>) -> Option<Job<'a>>
     ensures some { IfSome result (IsOf (codes "copy") (rows_of (found_of matches.now))) }
     ensures none { IfNone result ((job : AnyJob) → IsOf (codes "copy") (rows_of (found_of matches.now)) job → ⊥) }
 {
-    let disk = word_of(matches, "disk")?;
-    let plan = word_of(matches, "plan")?;
+    let (disk, plan) = files_of(matches)?;
     let new = word_of(matches, "new")?;
-    let m = number_of(matches, "m")?;
-    let n = number_of(matches, "n")?;
-    let k = number_of(matches, "k")?;
+    let (m, n, k) = shape_of(matches)?;
     let until = option_of(matches, "until", 0, GREATEST)?;
     Some(Job::Copy {
         disk,
@@ -291,8 +266,7 @@ fn states_job<'a>(matches: &ArgMatches<'a>) -> Option<Job<'a>>
     ensures some { IfSome result (IsOf (codes "states") (rows_of (found_of matches.now))) }
     ensures none { IfNone result ((job : AnyJob) → IsOf (codes "states") (rows_of (found_of matches.now)) job → ⊥) }
 {
-    let disk = word_of(matches, "disk")?;
-    let plan = word_of(matches, "plan")?;
+    let (disk, plan) = files_of(matches)?;
     Some(Job::States { disk, plan })
 }
 
@@ -303,9 +277,7 @@ fn load_job<'a>(matches: &ArgMatches<'a>) -> Option<Job<'a>>
 {
     let new = word_of(matches, "new")?;
     let plan = word_of(matches, "plan")?;
-    let m = number_of(matches, "m")?;
-    let n = number_of(matches, "n")?;
-    let k = number_of(matches, "k")?;
+    let (m, n, k) = shape_of(matches)?;
     let map = file_of(matches, "map");
     let closures = file_of(matches, "closures");
     Some(Job::Load {
@@ -324,8 +296,7 @@ fn stream_job<'a>(matches: &ArgMatches<'a>) -> Option<Job<'a>>
     ensures some { IfSome result (IsOf (codes "stream") (rows_of (found_of matches.now))) }
     ensures none { IfNone result ((job : AnyJob) → IsOf (codes "stream") (rows_of (found_of matches.now)) job → ⊥) }
 {
-    let disk = word_of(matches, "disk")?;
-    let plan = word_of(matches, "plan")?;
+    let (disk, plan) = files_of(matches)?;
     let workers = workers_of(matches)?;
     let cut_every = cut_every_of(matches)?;
     let most = option_of(matches, "most", 1, GREATEST)?;
@@ -379,6 +350,27 @@ fn plan_job<'a>(matches: &ArgMatches<'a>) -> Option<Job<'a>>
         dot,
         closures,
     })
+}
+
+/// The files DISK and PLAN.
+fn files_of<'a>(matches: &ArgMatches<'a>) -> Option<(&'a str, &'a str)>
+    ensures some { IfSome result (λ files. HasFiles (rows_of (found_of matches.now)) files.0 files.1) }
+    ensures none { IfNone result ((disk plan : Bor Text) → HasFiles (rows_of (found_of matches.now)) disk plan → ⊥) }
+{
+    let disk = word_of(matches, "disk")?;
+    let plan = word_of(matches, "plan")?;
+    Some((disk, plan))
+}
+
+/// The numbers M, N and K.
+fn shape_of(matches: &ArgMatches<'_>) -> Option<(u32, u32, u32)>
+    ensures some { IfSome result (λ shape. HasShape (rows_of (found_of matches.now)) shape.0 shape.1 shape.2) }
+    ensures none { IfNone result ((m n k : ℕ) → HasShape (rows_of (found_of matches.now)) m n k → ⊥) }
+{
+    let m = number_of(matches, "m")?;
+    let n = number_of(matches, "n")?;
+    let k = number_of(matches, "k")?;
+    Some((m, n, k))
 }
 
 /// The word of an argument.

@@ -1,15 +1,10 @@
-use Rattle.std.proofs.Common.{◌∙◌, ap, Some, [], ◌∷◌, codes}
+use Rattle.std.proofs.Common.{◌∙◌, ap, [], ◌∷◌, codes}
 use Rattle.clap.specs.Words.{Rule, rule_of}
 use Rattle.clap.specs.declared.builder.arg.Arg.{Arg}
 use Rattle.td_words.proofs.commands.picks_arg.Goals as goal
 
--- each call of the builder changes one field of the rule
 pub returns-clause-rule : goal.returns-clause-rule
-returns-clause-rule c =
-    let long = ap rule_of c.long.ensures ∙ ap (λ (r : Rule). record r { long = Some (codes "picks") }) c.new.ensures.rule in
-    let value_name = ap rule_of c.value_name.ensures ∙ ap (λ (r : Rule). record r { value_names = 1 }) long in
-    let default_value = ap rule_of c.default_value.ensures ∙ ap (λ (r : Rule). record r { defaults = (codes "0") ∷ [] }) value_name in
-    ap rule_of c.help.ensures ∙ default_value
+returns-clause-rule c = ap rule_of c.default_value.ensures ∙ ap (λ (r : Rule). record r { defaults = codes "0" ∷ [] }) c.text_option_arg.ensures.rule
 
 pub returns-clause-local : goal.returns-clause-local
-returns-clause-local c = ap (λ (a : Arg). a.global) c.help.ensures ∙ ap (λ (a : Arg). a.global) c.default_value.ensures ∙ ap (λ (a : Arg). a.global) c.value_name.ensures ∙ ap (λ (a : Arg). a.global) c.long.ensures ∙ c.new.ensures.optional.1
+returns-clause-local c = ap (λ (a : Arg). a.global) c.default_value.ensures ∙ c.text_option_arg.ensures.local

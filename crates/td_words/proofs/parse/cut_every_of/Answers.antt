@@ -1,8 +1,8 @@
-use Rattle.std.proofs.Common.{◌≡◌, ◌≤◌, ℕ, List, Result, Ok, Some, ap, ◌∙◌, subst, arith, codes}
+use Rattle.std.proofs.Common.{◌≡◌, ℕ, List, Result, Ok, Some, ap, ◌∙◌, arith, codes}
 use Rattle.std.specs.Str.Parse.{ParsesUnsigned, ExplainsUnsignedError, HasUnsignedDigitsIfOk}
 use Rattle.std.specs.declared.num.ParseIntError.{ParseIntError}
 use Rattle.clap.specs.Words.{found_of}
-use Rattle.td_words.proofs.Options.{option_read, none_read, no_option}
+use Rattle.td_words.proofs.Options.{option_read, none_read, no_option, some_there, refused_option}
 use Rattle.td_words.proofs.parse.cut_every_of.Goals as goal
 
 -- how a `u32` is read
@@ -20,11 +20,8 @@ returns-in-Ok-Some-clause-some c =
 pub returns-in_default-clause-none : goal.returns-in_default-clause-none
 returns-in_default-clause-none c =
     let was : c.try_get_one.result ≡ Ok (Some c.in-Ok-Some.every) = c.in-Ok-Some.is ∙ ap Ok c.in-Ok-Some.field-0-is in
-    no_option 32 Reads (λ t x h. h.0) (found_of c.args.matches.now) (codes "cut-every") c.try_get_one.result c.try_get_one.ensures.none c.try_get_one.ensures.value 1 65536 (omega arith) (λ e. cc)
-    (λ n is low high.
-    let same : n ≡ c.in-Ok-Some.every = cc in
-    let yes = c.is_cut_distance.ensures.1 (subst (λ m. 1 ≤ m) same low, subst (λ m. m ≤ 65536) same high) in
-    let not = c.if-is_cut_distance.false in cc)
+    no_option 32 Reads (λ t x h. h.0) (found_of c.args.matches.now) (codes "cut-every") c.try_get_one.result c.try_get_one.ensures.none c.try_get_one.ensures.value 1 65536 (omega arith) (some_there c.try_get_one.result c.in-Ok-Some.every was)
+    (refused_option c.try_get_one.result c.in-Ok-Some.every c.is_cut_distance.result 1 65536 was c.is_cut_distance.ensures.1 c.if-is_cut_distance.false)
 
 pub returns-in_default-2-clause-none : goal.returns-in_default-2-clause-none
 returns-in_default-2-clause-none c =

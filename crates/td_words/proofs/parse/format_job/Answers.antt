@@ -1,22 +1,14 @@
-use Rattle.std.proofs.Common.{refl, codes}
+use Rattle.std.proofs.Common.{refl}
 use Rattle.clap.specs.Words.{found_of, rows_of}
-use Rattle.td_words.proofs.Asked.{when_none, lacks, only_format}
+use Rattle.td_words.proofs.Asked.{when_none}
+use Rattle.td_words.proofs.Only.{only_format}
 use Rattle.td_words.proofs.parse.format_job.Goals as goal
 
 pub returns-in_err-disk-clause-none : goal.returns-in_err-disk-clause-none
-returns-in_err-disk-clause-none c = when_none _ c.from_residual.ensures (λ job h. let only = only_format (rows_of (found_of c.args.matches.now)) job h in lacks (codes "disk") (rows_of (found_of c.args.matches.now)) _ c.in_err-disk.ensures.none only.7.0)
-
-pub returns-in_err-plan-clause-none : goal.returns-in_err-plan-clause-none
-returns-in_err-plan-clause-none c = when_none _ c.from_residual-in_err-plan.ensures (λ job h. let only = only_format (rows_of (found_of c.args.matches.now)) job h in lacks (codes "plan") (rows_of (found_of c.args.matches.now)) _ c.in_err-plan.ensures.none only.7.1)
+returns-in_err-disk-clause-none c = when_none _ c.from_residual.ensures (λ job h. let only = only_format (rows_of (found_of c.args.matches.now)) job h in c.in_err-disk.ensures.none only.0 only.1 only.7.0)
 
 pub returns-in_err-m-clause-none : goal.returns-in_err-m-clause-none
-returns-in_err-m-clause-none c = when_none _ c.from_residual-in_err-m.ensures (λ job h. let only = only_format (rows_of (found_of c.args.matches.now)) job h in c.in_err-m.ensures.none only.2 only.7.2)
-
-pub returns-in_err-n-clause-none : goal.returns-in_err-n-clause-none
-returns-in_err-n-clause-none c = when_none _ c.from_residual-in_err-n.ensures (λ job h. let only = only_format (rows_of (found_of c.args.matches.now)) job h in c.in_err-n.ensures.none only.3 only.7.3)
-
-pub returns-in_err-k-clause-none : goal.returns-in_err-k-clause-none
-returns-in_err-k-clause-none c = when_none _ c.from_residual-in_err-k.ensures (λ job h. let only = only_format (rows_of (found_of c.args.matches.now)) job h in c.in_err-k.ensures.none only.4 only.7.4)
+returns-in_err-m-clause-none c = when_none _ c.from_residual-in_err-m.ensures (λ job h. let only = only_format (rows_of (found_of c.args.matches.now)) job h in c.in_err-m.ensures.none only.2 only.3 only.4 only.7.1)
 
 pub returns-clause-some : goal.returns-clause-some
-returns-clause-some c = (refl, (c.in_ok-disk.ensures.some, c.in_ok-plan.ensures.some, c.in_ok-m.ensures.some, c.in_ok-n.ensures.some, c.in_ok-k.ensures.some, c.file_of-closures.ensures))
+returns-clause-some c = (refl, (c.in_ok-disk.ensures.some, c.in_ok-m.ensures.some, c.file_of-closures.ensures))

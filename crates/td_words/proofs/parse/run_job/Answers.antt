@@ -1,6 +1,7 @@
 use Rattle.std.proofs.Common.{refl}
 use Rattle.clap.specs.Words.{found_of, rows_of}
-use Rattle.td_words.proofs.Asked.{when_none, only_run}
+use Rattle.td_words.proofs.Asked.{when_none}
+use Rattle.td_words.proofs.Only.{only_run}
 use Rattle.td_words.proofs.parse.run_job.Goals as goal
 
 pub returns-in_err-workers-clause-none : goal.returns-in_err-workers-clause-none

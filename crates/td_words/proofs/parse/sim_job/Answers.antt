@@ -1,6 +1,7 @@
 use Rattle.std.proofs.Common.{refl, codes}
 use Rattle.clap.specs.Words.{found_of, rows_of}
-use Rattle.td_words.proofs.Asked.{when_none, lacks, only_sim}
+use Rattle.td_words.proofs.Asked.{when_none, lacks}
+use Rattle.td_words.proofs.Only.{only_sim}
 use Rattle.td_words.proofs.parse.sim_job.Goals as goal
 
 pub returns-in_err-workers-clause-none : goal.returns-in_err-workers-clause-none
