@@ -73,8 +73,8 @@ PLACES = {
     ANEW: [
         "engine_steps/src/ring_calls.rt: 24, 2",
         "engine_steps/src/ring_calls.rt: 65536, 3",
-        "td_feed/src/room.rt: 24, 1",
-        "td_feed/src/room.rt: 25, 1",
+        "td_feed/src/under_way.rt: 24, 1",
+        "td_feed/src/under_way.rt: 25, 1",
         "td_feed/specs/Groups.antt: 24, 1",
         "td_feed/specs/Groups.antt: 25, 1",
         "td_head/src/shape.rt: 24, 1",
@@ -120,7 +120,7 @@ PLACES = {
     PIECE: [
         "td/src/disk.rt: 4096, 2",
         "td_console/src/engine.rt: 4096, 1",
-        "td_feed/src/settling.rt: 65536, 1",
+        "td_feed/src/under_way.rt: 65536, 1",
         "td_orders/specs/Lines.antt: 4096, 1",
         "td_orders/src/line_reader.rt: 4096, 1",
         "td_orders/src/line_reader.rt: 65536, 1",

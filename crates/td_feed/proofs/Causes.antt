@@ -30,7 +30,7 @@ use Rattle.td_store.specs.standing.Standing.{last_epoch, last_request}
 use Rattle.td_keeper.specs.Keeping.{Keeping}
 use Rattle.td_orders.specs.Lines.{has_overlong}
 use Rattle.td_orders.specs.Placed.{placed}
-use Rattle.td_feed.specs.declared.streaming.StreamOptions.{StreamOptions}
+use Rattle.td_feed.specs.declared.session.StreamOptions.{StreamOptions}
 use Rattle.td_feed.specs.Fed.{EachTellsHistory, pool_fault}
 use Rattle.td_feed.specs.Session.{script_by}
 use Rattle.td_feed.specs.Caused.{is_of_keeper, IsOfWriter, IsOfAsked, IsOfScript, IsOfStream, IsRefusedFor}

@@ -11,6 +11,7 @@ use Rattle.td_stamp.specs.declared.epoch_out.EpochOut.{EpochOut}
 use Rattle.td_disk.specs.Disk.{DiskView}
 use Rattle.td_journal.specs.declared.submitted.Submitted.{Submitted as AnySubmitted}
 use Rattle.td_store.specs.declared.standing.error.KeeperError.TheVariants as error
+use Rattle.td_store.specs.standing.Stops.{Begins}
 use Rattle.td_keeper.specs.declared.command.Command.{Command}
 use Rattle.td_keeper.specs.declared.command.Command.TheVariants.{Submit, SubmitAs, SubmitAll, Release, Settle, Collect, NextOut, Cut, CutUpTo, Answer, WriteCut, CloseFree}
 use Rattle.td_keeper.specs.declared.command.Reply.{Reply}
@@ -39,6 +40,17 @@ is_quiet Cut = true
 is_quiet (CutUpTo epoch) = true
 is_quiet (CloseFree most) = true
 is_quiet _ = false
+
+-- all of some batches begin them, and what begins a beginning begins the whole
+pub begins_all : (some all : List AnySubmitted) → some ≡ all → Begins some all
+begins_all some all is = ([], sym is ∙ sym (append-nil some))
+
+pub begins_further : (some x y : List AnySubmitted) → Begins some x → Begins x y → Begins some y
+begins_further some x y first next = (first.0 ++ next.0, next.1 ∙ ap (λ (l : List AnySubmitted). l ++ next.0) first.1 ∙ append_assoc some first.0 next.0)
+
+-- what one command submitted
+begins_one : (c : Command) (r : Reply) (x : List AnySubmitted) → Begins (submitted_in c r) x → Begins (submitted_in c r ++ []) x
+begins_one c r x b = (b.0, b.1 ∙ ap (λ (l : List AnySubmitted). l ++ b.0) (sym (append-nil (submitted_in c r))))
 
 -- notes and answers, and then others
 pub notes-append : (ss ts : List Saying) → notes_among (ss ++ ts) ≡ notes_among ss ++ notes_among ts
@@ -76,6 +88,14 @@ module _ {D : Type 0} (view : D → DiskView) (answers : Answers) (marks : Bool)
       ∙ sym (append_assoc (submitted_in (Answer v q) r) (submitted_by (commands_in ss) (replies_in ss)) (submitted_by (commands_in ts) (replies_in ts)))
   submitted-append (copied n s e ∷ ss) ts = submitted-append ss ts
   submitted-append (not_copied n s w ∷ ss) ts = submitted-append ss ts
+
+  -- what is said submits a beginning of some batches, after others
+  begins_after : (ss ts : List Saying) (x y : List AnySubmitted) → submitted_by (commands_in ss) (replies_in ss) ≡ x → Begins (submitted_by (commands_in ts) (replies_in ts)) y
+      → Begins (submitted_by (commands_in (ss ++ ts)) (replies_in (ss ++ ts))) (x ++ y)
+  begins_after ss ts x y is begins =
+      let then : List AnySubmitted = submitted_by (commands_in ts) (replies_in ts) in
+      let said : submitted_by (commands_in (ss ++ ts)) (replies_in (ss ++ ts)) ≡ x ++ then = submitted-append ss ts ∙ ap (λ (l : List AnySubmitted). l ++ then) is in
+      (begins.0, ap (λ (l : List AnySubmitted). x ++ l) begins.1 ∙ sym (append_assoc x then begins.0) ∙ ap (λ (l : List AnySubmitted). l ++ begins.0) (sym said))
 
   -- lines of what is said, one after another
   lines-append : (ss ts : List Saying) → lines_of marks (ss ++ ts) ≡ lines_of marks ss ++ lines_of marks ts
@@ -161,11 +181,12 @@ module _ {D : Type 0} (view : D → DiskView) (answers : Answers) (marks : Bool)
     said = subst (λ (l : List ℕ). Appends u w l) (sym (lines-append first.sayings rest.sayings)) (Appends-trans u v w (lines_of marks first.sayings) (lines_of marks rest.sayings) first.said rest.said);
   }
 
-  pub then_some : {f : Fault} (u v w : Option (List ℕ)) (a b c : Keeping D) (x : List AnySubmitted) (ns ms : List Aside) → Says view answers marks u v a b x ns
-      → SaysSome view answers marks f v w b c ms → SaysSome view answers marks f u w a c (ns ++ ms)
-  then_some {f = f} u v w a b c x ns ms first rest = record {
+  pub then_some : {f : Fault} (u v w : Option (List ℕ)) (a b c : Keeping D) (x y : List AnySubmitted) (ns ms : List Aside) → Says view answers marks u v a b x ns
+      → SaysSome view answers marks f v w b c y ms → SaysSome view answers marks f u w a c (x ++ y) (ns ++ ms)
+  then_some {f = f} u v w a b c x y ns ms first rest = record {
     sayings = first.sayings ++ rest.sayings;
     driven = told-append first.sayings rest.sayings a b c first.driven rest.driven;
+    submitted = begins_after first.sayings rest.sayings x y first.submitted rest.submitted;
     later = rest.later;
     noted = some_noted first.sayings rest.sayings rest.later ns ms first.noted rest.noted;
     text = lines_of marks first.sayings ++ rest.text;
@@ -177,10 +198,11 @@ module _ {D : Type 0} (view : D → DiskView) (answers : Answers) (marks : Bool)
 
   -- all is some, whatever the replies
   pub some_of_all : (f : Fault) (u v : Option (List ℕ)) (a b : Keeping D) (x : List AnySubmitted) (ns : List Aside) → ((rs : List Reply) → IsOfReplies f rs) → Says view answers marks u v a b x ns
-      → SaysSome view answers marks f u v a b ns
+      → SaysSome view answers marks f u v a b x ns
   some_of_all f u v a b x ns cause all = record {
     sayings = all.sayings;
     driven = all.driven;
+    submitted = begins_all (submitted_by (commands_in all.sayings) (replies_in all.sayings)) x all.submitted;
     later = [];
     noted = append-nil (notes_among all.sayings) ∙ all.noted;
     text = lines_of marks all.sayings;
@@ -191,10 +213,11 @@ module _ {D : Type 0} (view : D → DiskView) (answers : Answers) (marks : Bool)
   }
 
   -- the same at another refusal
-  pub some_for : (f e : Fault) (u v : Option (List ℕ)) (a b : Keeping D) (ns : List Aside) → ((rs : List Reply) → IsOfReplies f rs) → SaysSome view answers marks e u v a b ns → SaysSome view answers marks f u v a b ns
+  pub some_for : {x : List AnySubmitted} (f e : Fault) (u v : Option (List ℕ)) (a b : Keeping D) (ns : List Aside) → ((rs : List Reply) → IsOfReplies f rs) → SaysSome view answers marks e u v a b x ns → SaysSome view answers marks f u v a b x ns
   some_for f e u v a b ns cause some = record {
     sayings = some.sayings;
     driven = some.driven;
+    submitted = some.submitted;
     later = some.later;
     noted = some.noted;
     text = some.text;
@@ -205,11 +228,12 @@ module _ {D : Type 0} (view : D → DiskView) (answers : Answers) (marks : Bool)
   }
 
   -- of more notes
-  pub some_of_more : {f : Fault} (u v : Option (List ℕ)) (a b : Keeping D) (ns more ms : List Aside) → ns ++ more ≡ ms → SaysSome view answers marks f u v a b ns
-      → SaysSome view answers marks f u v a b ms
+  pub some_of_more : {f : Fault} {x : List AnySubmitted} (u v : Option (List ℕ)) (a b : Keeping D) (ns more ms : List Aside) → ns ++ more ≡ ms → SaysSome view answers marks f u v a b x ns
+      → SaysSome view answers marks f u v a b x ms
   some_of_more u v a b ns more ms is some = record {
     sayings = some.sayings;
     driven = some.driven;
+    submitted = some.submitted;
     later = some.later ++ more;
     noted = sym (append_assoc (notes_among some.sayings) some.later more) ∙ ap (λ (l : List Aside). l ++ more) some.noted ∙ is;
     text = some.text;
@@ -219,26 +243,58 @@ module _ {D : Type 0} (view : D → DiskView) (answers : Answers) (marks : Bool)
     cause = some.cause;
   }
 
-  -- the last line was not written
-  pub unsaid_one : (f : Fault) (w : Option (List ℕ)) (c : Command) (r : Reply) (old new : Keeping D) → IsOfReplies f (r ∷ []) → Driven view answers (c ∷ []) (r ∷ []) old new
-      → SaysSome view answers marks f w w old new []
-  unsaid_one f w c r old new cause driven =
-      record { sayings = replied c r ∷ []; driven = driven; later = []; noted = refl; text = []; unsaid = lines_of marks (replied c r ∷ []); lines = refl; said = Appends-nil w; cause = cause }
+  -- of more batches
+  pub some_of_longer : {f : Fault} {x y : List AnySubmitted} (u v : Option (List ℕ)) (a b : Keeping D) (ns : List Aside) → Begins x y → SaysSome view answers marks f u v a b x ns
+      → SaysSome view answers marks f u v a b y ns
+  some_of_longer {x = x} {y = y} u v a b ns longer some = record {
+    sayings = some.sayings;
+    driven = some.driven;
+    submitted = begins_further (submitted_by (commands_in some.sayings) (replies_in some.sayings)) x y some.submitted longer;
+    later = some.later;
+    noted = some.noted;
+    text = some.text;
+    unsaid = some.unsaid;
+    lines = some.lines;
+    said = some.said;
+    cause = some.cause;
+  }
 
-  pub unsaid_none : (f : Fault) (w : Option (List ℕ)) (k : Keeping D) (ns : List Aside) → IsOfReplies f [] → SaysSome view answers marks f w w k k ns
-  unsaid_none f w k ns cause = record { sayings = []; driven = refl; later = ns; noted = refl; text = []; unsaid = []; lines = refl; said = Appends-nil w; cause = cause }
+  -- the last line was not written
+  pub unsaid_one : {x : List AnySubmitted} (f : Fault) (w : Option (List ℕ)) (c : Command) (r : Reply) (old new : Keeping D) → IsOfReplies f (r ∷ []) → Driven view answers (c ∷ []) (r ∷ []) old new
+      → Begins (submitted_in c r) x → SaysSome view answers marks f w w old new x []
+  unsaid_one {x = x} f w c r old new cause driven begins = record {
+    sayings = replied c r ∷ [];
+    driven = driven;
+    submitted = begins_one c r x begins;
+    later = [];
+    noted = refl;
+    text = [];
+    unsaid = lines_of marks (replied c r ∷ []);
+    lines = refl;
+    said = Appends-nil w;
+    cause = cause;
+  }
+
+  pub unsaid_none : {x : List AnySubmitted} (f : Fault) (w : Option (List ℕ)) (k : Keeping D) (ns : List Aside) → IsOfReplies f [] → SaysSome view answers marks f w w k k x ns
+  unsaid_none {x = x} f w k ns cause =
+      record { sayings = []; driven = refl; submitted = (x, refl); later = ns; noted = refl; text = []; unsaid = []; lines = refl; said = Appends-nil w; cause = cause }
 
   -- a refused command writes nothing
-  pub refused_some : (f : Fault) (w : Option (List ℕ)) (c : Command) (old new : Keeping D) → Refuses view answers f c old new → SaysSome view answers marks f w w old new []
-  refused_some f w c old new told = unsaid_one f w c told.reply old new (of_reply f told.reply told.refused told.fault_is) told.driven
+  pub refused_some : {x : List AnySubmitted} (f : Fault) (w : Option (List ℕ)) (c : Command) (old new : Keeping D) (told : Refuses view answers f c old new) → Begins (submitted_in c told.reply) x
+      → SaysSome view answers marks f w w old new x []
+  refused_some f w c old new told begins = unsaid_one f w c told.reply old new (of_reply f told.reply told.refused told.fault_is) told.driven begins
 
   -- whatever was written, the keeper was told
-  pub unheard : {f : Fault} (u v : Option (List ℕ)) (a b : Keeping D) (ns : List Aside) → SaysSome view answers marks f u v a b ns → SaysUnheard view answers marks a b
-  unheard u v a b ns some = record { commands = commands_in some.sayings; replies = replies_in some.sayings; driven = some.driven }
+  pub unheard : {f : Fault} {x : List AnySubmitted} (u v : Option (List ℕ)) (a b : Keeping D) (ns : List Aside) → SaysSome view answers marks f u v a b x ns → SaysUnheard view answers marks a b x
+  unheard u v a b ns some = record { commands = commands_in some.sayings; replies = replies_in some.sayings; driven = some.driven; submitted = some.submitted }
+
+  pub unheard_of_longer : {x y : List AnySubmitted} (a b : Keeping D) → Begins x y → SaysUnheard view answers marks a b x → SaysUnheard view answers marks a b y
+  unheard_of_longer {x = x} {y = y} a b longer told =
+      record { commands = told.commands; replies = told.replies; driven = told.driven; submitted = begins_further (submitted_by told.commands told.replies) x y told.submitted longer }
 
   -- whatever came of it, the keeper was told commands
   pub always_driven : (result : Result (Unit {0}) Fault) (u v : Option (List ℕ)) (a b : Keeping D) (x : List AnySubmitted) (ns : List Aside) → SaysBy view answers marks result u v a b x ns
-      → SaysUnheard view answers marks a b
+      → SaysUnheard view answers marks a b x
   always_driven (Ok done) u v a b x ns all = unheard u v a b ns (some_of_all Memory u v a b x ns of_memory all)
   always_driven (Err fault) u v a b x ns said = ⊎_elim (λ output. output.1) (λ some. unheard u v a b ns some) said
 
@@ -249,38 +305,53 @@ module _ {D : Type 0} (view : D → DiskView) (answers : Answers) (marks : Bool)
   driven-append (x ∷ cs) [] ds ss a b c none rest = absurd none
   driven-append (x ∷ cs) (r ∷ rs) ds ss a b c first rest = (first.0, first.1, first.2, driven-append cs rs ds ss first.0 b c first.3 rest)
 
-  pub then_unheard : (u v : Option (List ℕ)) (a b c : Keeping D) (x : List AnySubmitted) (ns : List Aside) → Says view answers marks u v a b x ns
-      → SaysUnheard view answers marks b c → SaysUnheard view answers marks a c
-  then_unheard u v a b c x ns first rest = record {
-    commands = commands_in first.sayings ++ rest.commands;
-    replies = replies_in first.sayings ++ rest.replies;
-    driven = driven-append (commands_in first.sayings) (replies_in first.sayings) rest.commands rest.replies a b c first.driven rest.driven;
-  }
+  -- and what commands submitted, and then others
+  by-append : (cs : List Command) (rs : List Reply) (ds : List Command) (ss : List Reply) (a b : Keeping D) → Driven view answers cs rs a b
+      → submitted_by (cs ++ ds) (rs ++ ss) ≡ submitted_by cs rs ++ submitted_by ds ss
+  by-append [] [] ds ss a b is = refl
+  by-append [] (r ∷ rs) ds ss a b none = absurd none
+  by-append (x ∷ cs) [] ds ss a b none = absurd none
+  by-append (x ∷ cs) (r ∷ rs) ds ss a b first =
+      ap (λ (l : List AnySubmitted). submitted_in x r ++ l) (by-append cs rs ds ss first.0 b first.3) ∙ sym (append_assoc (submitted_in x r) (submitted_by cs rs) (submitted_by ds ss))
+
+  pub then_unheard : {y : List AnySubmitted} (u v : Option (List ℕ)) (a b c : Keeping D) (x : List AnySubmitted) (ns : List Aside) → Says view answers marks u v a b x ns
+      → SaysUnheard view answers marks b c y → SaysUnheard view answers marks a c (x ++ y)
+  then_unheard u v a b c x ns first rest =
+      let then : List AnySubmitted = submitted_by rest.commands rest.replies in
+      let by : submitted_by (commands_in first.sayings ++ rest.commands) (replies_in first.sayings ++ rest.replies) ≡ x ++ then =
+      by-append (commands_in first.sayings) (replies_in first.sayings) rest.commands rest.replies a b first.driven ∙ ap (λ (l : List AnySubmitted). l ++ then) first.submitted in
+      record {
+        commands = commands_in first.sayings ++ rest.commands;
+        replies = replies_in first.sayings ++ rest.replies;
+        driven = driven-append (commands_in first.sayings) (replies_in first.sayings) rest.commands rest.replies a b c first.driven rest.driven;
+        submitted = (rest.submitted.0, ap (λ (l : List AnySubmitted). x ++ l) rest.submitted.1 ∙ sym (append_assoc x then rest.submitted.0) ∙ ap (λ (l : List AnySubmitted). l ++ rest.submitted.0) (sym by));
+      }
 
   -- AT AN ANSWER
   pub then_by : (result : Result (Unit {0}) Fault) (u v w : Option (List ℕ)) (a b c : Keeping D) (x y : List AnySubmitted) (ns ms : List Aside) → Says view answers marks u v a b x ns
       → SaysBy view answers marks result v w b c y ms → SaysBy view answers marks result u w a c (x ++ y) (ns ++ ms)
   then_by (Ok done) u v w a b c x y ns ms first rest = says_then u v w a b c x y ns ms first rest
-  then_by (Err fault) u v w a b c x y ns ms first rest = ⊎_elim (λ output. inl (output.0, then_unheard u v a b c x ns first output.1)) (λ some. inr (then_some u v w a b c x ns ms first some)) rest
+  then_by (Err fault) u v w a b c x y ns ms first rest = ⊎_elim (λ output. inl (output.0, then_unheard u v a b c x ns first output.1)) (λ some. inr (then_some u v w a b c x y ns ms first some)) rest
 
   pub by_ok : (result : Result (Unit {0}) Fault) (u v : Option (List ℕ)) (a b : Keeping D) (x : List AnySubmitted) (ns : List Aside) → result ≡ Ok tt
       → Says view answers marks u v a b x ns → SaysBy view answers marks result u v a b x ns
   by_ok result u v a b x ns is says = subst (λ (r : Result (Unit {0}) Fault). SaysBy view answers marks r u v a b x ns) (sym is) says
 
   pub by_refusal : (result : Result (Unit {0}) Fault) (P : Fault → Type 0) (u v : Option (List ℕ)) (a b : Keeping D) (x : List AnySubmitted) (ns : List Aside) → IsErrAnd result P
-      → ((f : Fault) → P f → ((f ≡ Output) × SaysUnheard view answers marks a b) ⊎ SaysSome view answers marks f u v a b ns)
+      → ((f : Fault) → P f → ((f ≡ Output) × SaysUnheard view answers marks a b x) ⊎ SaysSome view answers marks f u v a b x ns)
       → SaysBy view answers marks result u v a b x ns
   by_refusal (Ok done) P u v a b x ns none step = absurd none
   by_refusal (Err fault) P u v a b x ns is step = step fault is
 
   -- the same fault is handed on, with more that was asked for
-  pub handed_on : (result : Result (Unit {0}) Fault) (e : Fault) (u v w : Option (List ℕ)) (a b c : Keeping D) (x y z : List AnySubmitted) (ns ms more all : List Aside) → (ns ++ ms) ++ more ≡ all
+  pub handed_on : (result : Result (Unit {0}) Fault) (e : Fault) (u v w : Option (List ℕ)) (a b c : Keeping D) (x y z : List AnySubmitted) (ns ms more all : List Aside) → (ns ++ ms) ++ more ≡ all → Begins (x ++ y) z
       → IsErrAnd result (λ f. f ≡ e) → Says view answers marks u v a b x ns → SaysBy view answers marks (Err e) v w b c y ms
       → SaysBy view answers marks result u w a c z all
-  handed_on (Ok done) e u v w a b c x y z ns ms more all whole none first rest = absurd none
-  handed_on (Err f) e u v w a b c x y z ns ms more all whole is first rest =
-      ⊎_elim (λ output. inl (is ∙ output.0, then_unheard u v a b c x ns first output.1))
-      (λ some. inr (subst (λ (d : Fault). SaysSome view answers marks d u w a c all) (sym is) (some_of_more u w a c (ns ++ ms) more all whole (then_some u v w a b c x ns ms first some)))) rest
+  handed_on (Ok done) e u v w a b c x y z ns ms more all whole longer none first rest = absurd none
+  handed_on (Err f) e u v w a b c x y z ns ms more all whole longer is first rest =
+      ⊎_elim (λ output. inl (is ∙ output.0, unheard_of_longer a c longer (then_unheard u v a b c x ns first output.1)))
+      (λ some. inr (subst (λ (d : Fault). SaysSome view answers marks d u w a c z all) (sym is)
+      (some_of_more u w a c (ns ++ ms) more all whole (some_of_longer u w a c (ns ++ ms) longer (then_some u v w a b c x y ns ms first some))))) rest
 
   -- a command whose reply has no line
   pub says_silent : (w : Option (List ℕ)) (c : Command) (r : Reply) (old new : Keeping D) → Driven view answers (c ∷ []) (r ∷ []) old new → line_of marks (request_in c) r ≡ []
@@ -400,8 +471,9 @@ module _ {D : Type 0} (view : D → DiskView) (answers : Answers) (marks : Bool)
   said_by (Ok done) w v c r old new x P driven is said none same =
       subst (λ (l : List AnySubmitted). Says view answers marks w v old new l []) is (says_one w v c r old new driven said)
   said_by (Err f) w v c r old new x P driven is said why same =
-      ⊎_elim (λ output. inl (output, unheard w w old new [] (unsaid_one Memory w c r old new (of_memory (r ∷ [])) driven)))
-      (λ memory. inr (subst (λ (u : Option (List ℕ)). SaysSome view answers marks f w u old new []) (sym (same memory.1)) (unsaid_one f w c r old new (for_memory f memory.0 (r ∷ [])) driven))) why
+      ⊎_elim (λ output. inl (output, unheard w w old new [] (unsaid_one Memory w c r old new (of_memory (r ∷ [])) driven (begins_all (submitted_in c r) x is))))
+      (λ memory. inr (subst (λ (u : Option (List ℕ)). SaysSome view answers marks f w u old new x []) (sym (same memory.1))
+      (unsaid_one f w c r old new (for_memory f memory.0 (r ∷ [])) driven (begins_all (submitted_in c r) x is)))) why
 
   -- the line of a note, where it was to be written
   pub noted_by : (result : Result (Unit {0}) Fault) (w v : Option (List ℕ)) (n : Note) (k : Keeping D) (P : Type 0) → OnOk result (Appends w v (note_line n))
@@ -409,7 +481,7 @@ module _ {D : Type 0} (view : D → DiskView) (answers : Answers) (marks : Bool)
   noted_by (Ok done) w v n k P said none same = says_note w v n k said
   noted_by (Err f) w v n k P said why same =
       ⊎_elim (λ output. inl (output, unheard w w k k (to_say n ∷ []) (unsaid_none Memory w k (to_say n ∷ []) (of_memory []))))
-      (λ memory. inr (subst (λ (u : Option (List ℕ)). SaysSome view answers marks f w u k k (to_say n ∷ [])) (sym (same memory.1)) (unsaid_none f w k (to_say n ∷ []) (for_memory f memory.0 [])))) why
+      (λ memory. inr (subst (λ (u : Option (List ℕ)). SaysSome view answers marks f w u k k [] (to_say n ∷ [])) (sym (same memory.1)) (unsaid_none f w k (to_say n ∷ []) (for_memory f memory.0 [])))) why
 
   -- that a copy was made was written, or why it was not
   pub says_copied : (before after : Option (List ℕ)) (n : List ℕ) (s : Sizes) (e : ℕ) (k : Keeping D) → Appends before after (copied_line n e) → Says view answers marks before after k k [] (to_copy n s (Some e) ∷ [])
@@ -436,14 +508,15 @@ module _ {D : Type 0} (view : D → DiskView) (answers : Answers) (marks : Bool)
   line_by (Ok done) w v line ns k P says said none same = says said
   line_by (Err f) w v line ns k P says said why same =
       ⊎_elim (λ output. inl (output, unheard w w k k ns (unsaid_none Memory w k ns (of_memory []))))
-      (λ memory. inr (subst (λ (u : Option (List ℕ)). SaysSome view answers marks f w u k k ns) (sym (same memory.1)) (unsaid_none f w k ns (for_memory f memory.0 [])))) why
+      (λ memory. inr (subst (λ (u : Option (List ℕ)). SaysSome view answers marks f w u k k [] ns) (sym (same memory.1)) (unsaid_none f w k ns (for_memory f memory.0 [])))) why
 
   -- an answer, of which nothing was written
   unsaid_answer : (f : Fault) (w : Option (List ℕ)) (v : ℕ) (q : Of) (r : Reply) (old new : Keeping D) → IsOfReplies f (r ∷ []) → Driven view answers (Answer v q ∷ []) (r ∷ []) old new
-      → SaysSome view answers marks f w w old new (to_answer v q ∷ [])
+      → SaysSome view answers marks f w w old new [] (to_answer v q ∷ [])
   unsaid_answer f w v q r old new cause driven = record {
     sayings = answered v q r ∷ [];
     driven = driven;
+    submitted = ([], refl);
     later = [];
     noted = refl;
     text = [];
@@ -460,11 +533,12 @@ module _ {D : Type 0} (view : D → DiskView) (answers : Answers) (marks : Bool)
   answered_by (Ok done) w u v q r old new P driven said none same = says_answer w u v q r old new driven said
   answered_by (Err f) w u v q r old new P driven said why same =
       ⊎_elim (λ output. inl (output, unheard w w old new (to_answer v q ∷ []) (unsaid_answer Memory w v q r old new (of_memory (r ∷ [])) driven)))
-      (λ memory. inr (subst (λ (t : Option (List ℕ)). SaysSome view answers marks f w t old new (to_answer v q ∷ [])) (sym (same memory.1)) (unsaid_answer f w v q r old new (for_memory f memory.0 (r ∷ [])) driven))) why
+      (λ memory. inr (subst (λ (t : Option (List ℕ)). SaysSome view answers marks f w t old new [] (to_answer v q ∷ [])) (sym (same memory.1)) (unsaid_answer f w v q r old new (for_memory f memory.0 (r ∷ [])) driven))) why
 
   -- a question that was not answered
-  pub unanswered : (f : Fault) (w : Option (List ℕ)) (c : Command) (old new : Keeping D) (ns : List Aside) → Refuses view answers f c old new → SaysSome view answers marks f w w old new ns
-  unanswered f w c old new ns refuses = some_of_more w w old new [] ns ns refl (refused_some f w c old new refuses)
+  pub unanswered : (f : Fault) (w : Option (List ℕ)) (c : Command) (old new : Keeping D) (ns : List Aside) → ((r : Reply) → submitted_in c r ≡ []) → Refuses view answers f c old new
+      → SaysSome view answers marks f w w old new [] ns
+  unanswered f w c old new ns none refuses = some_of_more w w old new [] ns ns refl (refused_some f w c old new refuses (begins_all (submitted_in c refuses.reply) [] (none refuses.reply)))
 
   -- the line that the journal is full, where it was to be written
   pub full_by : (result : Result (Unit {0}) Fault) (w v : Option (List ℕ)) (e : ℕ) (k : Keeping D) (P : Type 0) → OnOk result (Appends w v (full_line e))
@@ -472,7 +546,7 @@ module _ {D : Type 0} (view : D → DiskView) (answers : Answers) (marks : Bool)
   full_by (Ok done) w v e k P said none same = says_full w v e k said
   full_by (Err f) w v e k P said why same =
       ⊎_elim (λ output. inl (output, unheard w w k k [] (unsaid_none Memory w k [] (of_memory []))))
-      (λ memory. inr (subst (λ (u : Option (List ℕ)). SaysSome view answers marks f w u k k []) (sym (same memory.1)) (unsaid_none f w k [] (for_memory f memory.0 [])))) why
+      (λ memory. inr (subst (λ (u : Option (List ℕ)). SaysSome view answers marks f w u k k [] []) (sym (same memory.1)) (unsaid_none f w k [] (for_memory f memory.0 [])))) why
 
   -- after what was said
   pub then_quiet : (result : Result (Unit {0}) Fault) (u v w : Option (List ℕ)) (a b c : Keeping D) (x : List AnySubmitted) (ns : List Aside) → Says view answers marks u v a b x ns
@@ -483,13 +557,13 @@ module _ {D : Type 0} (view : D → DiskView) (answers : Answers) (marks : Bool)
 
   -- OUTPUTS THAT ARE HELD BACK: the lines of the replies are what was written, and what is held; and none of them is the keeper's refusal
   pub record Holding (before after : Option (List ℕ)) (old new : Keeping D) (held : List ℕ) : Type 0 where
-    pub some : SaysSome view answers marks Memory before after old new []
+    pub some : SaysSome view answers marks Memory before after old new [] []
     pub held_is : some.unsaid ≡ held
     pub none : submitted_by (commands_in some.sayings) (replies_in some.sayings) ≡ []
 
   pub holding_nothing : (w : Option (List ℕ)) (k : Keeping D) (held : List ℕ) → held ≡ [] → Holding w w k k held
   holding_nothing w k held is = record {
-    some = record { sayings = []; driven = refl; later = []; noted = refl; text = []; unsaid = []; lines = refl; said = Appends-nil w; cause = of_memory [] };
+    some = record { sayings = []; driven = refl; submitted = ([], refl); later = []; noted = refl; text = []; unsaid = []; lines = refl; said = Appends-nil w; cause = of_memory [] };
     held_is = sym is;
     none = refl;
   }
@@ -500,10 +574,13 @@ module _ {D : Type 0} (view : D → DiskView) (answers : Answers) (marks : Bool)
   holding_more u v a b c o held more so_far driven is =
       let s = so_far.some in
       let one : List Saying = replied NextOut (Out o) ∷ [] in
+      let none : submitted_by (commands_in (s.sayings ++ one)) (replies_in (s.sayings ++ one)) ≡ [] =
+      submitted-append s.sayings one ∙ append-nil (submitted_by (commands_in s.sayings) (replies_in s.sayings)) ∙ so_far.none in
       record {
         some = record {
           sayings = s.sayings ++ one;
           driven = told-append s.sayings one a b c s.driven driven;
+          submitted = begins_all (submitted_by (commands_in (s.sayings ++ one)) (replies_in (s.sayings ++ one))) [] none;
           later = s.later;
           noted = ap (λ (l : List Aside). l ++ s.later) (notes-append s.sayings one ∙ append-nil (notes_among s.sayings)) ∙ s.noted;
           text = s.text;
@@ -516,7 +593,7 @@ module _ {D : Type 0} (view : D → DiskView) (answers : Answers) (marks : Bool)
           cause = of_memory (replies_in (s.sayings ++ one));
         };
         held_is = refl;
-        none = submitted-append s.sayings one ∙ append-nil (submitted_by (commands_in s.sayings) (replies_in s.sayings)) ∙ so_far.none;
+        none = none;
       }
 
   -- a reply that has none
@@ -532,6 +609,7 @@ module _ {D : Type 0} (view : D → DiskView) (answers : Answers) (marks : Bool)
         some = record {
           sayings = s.sayings;
           driven = s.driven;
+          submitted = s.submitted;
           later = s.later;
           noted = s.noted;
           text = s.text ++ s.unsaid;
@@ -593,7 +671,7 @@ EndedAs obeyed worked f = (obeyed ≡ Err f) ⊎ (((obeyed ≡ Ok tt) ⊎ ((e : 
 
 module _ {D : Type 0} (view : D → DiskView) (answers : Answers) (marks : Bool) (u v : Option (List ℕ)) (a b : Keeping D) (x : List AnySubmitted) (ns : List Aside) where
   some_by : (f : Fault) (obeyed : Result (Unit {0}) Fault) → ((rs : List Reply) → IsOfReplies f rs) → SaysBy view answers marks obeyed u v a b x ns → (obeyed ≡ Ok tt) ⊎ ((e : ℕ) × (obeyed ≡ Err (Keeper (error.NotPassed e))))
-      → SaysSome view answers marks f u v a b ns
+      → SaysSome view answers marks f u v a b x ns
   some_by f (Ok done) cause says why = some_of_all view answers marks f u v a b x ns cause says
   some_by f (Err e) cause says why =
       ⊎_elim (λ output. ⊎_elim (λ not_so. absurd (let is = not_so in cc)) (λ unpassed. absurd (let is = unpassed.1 in let other = output.0 in cc)) why) (λ some. some_for view answers marks f e u v a b ns cause some) says

@@ -9,6 +9,7 @@ use Rattle.td_journal.specs.declared.submitted.Submitted.{Submitted}
 use Rattle.td_journal.specs.Numbers.{greatest}
 use Rattle.td_stamp.specs.declared.values.Entry.{Entry}
 use Rattle.td_store.specs.standing.Standing.{last_request, submission}
+use Rattle.td_store.specs.standing.Stops.{Begins}
 use Rattle.td_keeper.specs.Keeping.{Keeping}
 use Rattle.td_orders.specs.declared.order.Order.{Order}
 use Rattle.td_orders.specs.declared.at_once.Asked.{Asked}
@@ -257,30 +258,37 @@ module _ {D E : Type 0} (view : D → DiskView) (answers : Answers) (marks : Boo
     told_on later before is =
         told_over before first seen later so.done (so.done ++ orders.0) so.held.now (is ∙ ap (λ (o : Option ℕ). seen_with o asked) so.held.now ∙ seen_with_more first so.done orders.0 asked orders.4)
 
+    -- the batches of the orders after these
+    abbrev others : List Order → List Submitted
+    others later = new_after (greatest (last_request there.standing) (new_to there more)) (submissions later)
+
+    all_in_parts : (s : Script) (later : List Order) → s.orders ≡ (so.done ++ orders.0) ++ later
+        → new_to old (submissions s.orders) ≡ new_to old (submissions so.done) ++ (new_to there more ++ others later)
+    all_in_parts s later is =
+        ap (new_to old) (ap submissions (is ∙ append_assoc so.done orders.0 later) ∙ submissions-append so.done (orders.0 ++ later)
+        ∙ ap (λ (l : List Submitted). submissions so.done ++ l) (submissions-append orders.0 later ∙ ap (λ (l : List Submitted). l ++ submissions later) orders.1))
+        ∙ new_on answers old there (submissions so.done) (more ++ submissions later) so.carried
+        ∙ ap (λ (l : List Submitted). new_to old (submissions so.done) ++ l) (new_after-append (last_request there.standing) more (submissions later))
+
+    -- these begin the batches of the script
+    pub some_later : IfSome all (λ s. Begins (new_to old (submissions so.done) ++ new_to there more) (new_to old (submissions s.orders)))
+    some_later = by all next orders.2
+      where
+        by : (all next : Option Script) → IsPart all (so.done ++ orders.0) next → IfSome all (λ s. Begins (new_to old (submissions so.done) ++ new_to there more) (new_to old (submissions s.orders)))
+        by None next is = tt
+        by (Some s) None is = absurd is
+        by (Some s) (Some n) is = (others n.orders, all_in_parts s n.orders is.0 ∙ sym (append_assoc (new_to old (submissions so.done)) (new_to there more) (others n.orders)))
+
     -- or they were refused
     pub some_refused : Leaves view answers there new (new_to there more) → IfSome all (λ s. Leaves view answers old new (new_to old (submissions s.orders)))
     some_refused leaves = by all next orders.2
       where
-        o : List Order
-        o = orders.0
-
-        others : List Order → List Submitted
-        others later = new_after (greatest (last_request there.standing) (new_to there more)) (submissions later)
-
-        whole : (s : Script) (later : List Order) → s.orders ≡ (so.done ++ o) ++ later
-            → new_to old (submissions s.orders) ≡ new_to old (submissions so.done) ++ (new_to there more ++ others later)
-        whole s later is =
-            ap (new_to old) (ap submissions (is ∙ append_assoc so.done o later) ∙ submissions-append so.done (o ++ later)
-            ∙ ap (λ (l : List Submitted). submissions so.done ++ l) (submissions-append o later ∙ ap (λ (l : List Submitted). l ++ submissions later) orders.1))
-            ∙ new_on answers old there (submissions so.done) (more ++ submissions later) so.carried
-            ∙ ap (λ (l : List Submitted). new_to old (submissions so.done) ++ l) (new_after-append (last_request there.standing) more (submissions later))
-
-        by : (all next : Option Script) → IsPart all (so.done ++ o) next → IfSome all (λ s. Leaves view answers old new (new_to old (submissions s.orders)))
+        by : (all next : Option Script) → IsPart all (so.done ++ orders.0) next → IfSome all (λ s. Leaves view answers old new (new_to old (submissions s.orders)))
         by None next is = tt
         by (Some s) None is = absurd is
         by (Some s) (Some n) is =
             then_leaves view answers old there new (new_to old (submissions so.done)) (new_to there more) (others n.orders) (new_to old (submissions s.orders))
-            (whole s n.orders is.0) so.carried leaves
+            (all_in_parts s n.orders is.0) so.carried leaves
 
     -- what came of the script's notes, of which those after them are not done
     pub came_left : (more_done : List Aside) → ComeOf noted more_done
@@ -320,6 +328,16 @@ module _ {D E : Type 0} (view : D → DiskView) (answers : Answers) (marks : Boo
             then_leaves view answers old there there (new_to old (submissions so.done)) [] (new_to there (submissions l.orders)) (new_to old (submissions s.orders))
             (ap (new_to old) (ap submissions is.0 ∙ submissions-append so.done l.orders) ∙ new_on answers old there (submissions so.done) (submissions l.orders) so.carried)
             so.carried (leaves_all view answers there there [] (unmoved answers there there refl refl so.carried.whole))
+
+    -- what was asked for so far begins the batches of the script
+    pub later_there : IfSome all (λ s. Begins (new_to old (submissions so.done)) (new_to old (submissions s.orders)))
+    later_there = by all left so.known
+      where
+        by : (all left : Option Script) → IsPart all so.done left → IfSome all (λ s. Begins (new_to old (submissions so.done)) (new_to old (submissions s.orders)))
+        by None left is = tt
+        by (Some s) None is = absurd is
+        by (Some s) (Some l) is =
+            (new_to there (submissions l.orders), ap (new_to old) (ap submissions is.0 ∙ submissions-append so.done l.orders) ∙ new_on answers old there (submissions so.done) (submissions l.orders) so.carried)
 
     -- nothing is kept beyond what was seen
     pub held_there : (new : Keeping D) → SameBase there new → IfSome all (λ s. KeepsTo (then_seen first s.orders) old new)

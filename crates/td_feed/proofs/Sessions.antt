@@ -13,6 +13,8 @@ use Rattle.td_keeper.specs.declared.command.Command.{Command}
 use Rattle.td_keeper.specs.declared.command.Command.TheVariants.{Answer}
 use Rattle.td_keeper.specs.declared.command.Reply.{Reply}
 use Rattle.td_keeper.specs.Keeping.{Keeping}
+use Rattle.td_keeper.specs.Driven.{submitted_in}
+use Rattle.td_store.specs.standing.Stops.{Begins}
 use Rattle.td_disk.specs.Calls.{KeepsDevice}
 use Rattle.td_pool.specs.declared.error.PoolError.{PoolError}
 use Rattle.td_console.specs.declared.faults.Fault.{Fault}
@@ -181,10 +183,11 @@ module _ {D : Type 0} {view : D → DiskView} {answers : Answers} {marks : Bool}
   pub fed_refused : {w : Option (List ℕ)} {a b : Keeping D} {x : List Submitted} (e : Fault) (r : Result (Unit {0}) Fault) (command : Command) → IsErrAnd r (λ f. f ≡ e) → new_to a (batch_in command) ≡ x
       → IsNotObeyed view answers e command a b → Feeds view answers marks r w w a b x
   fed_refused e (Ok d) command none is refused = absurd none
-  fed_refused {w = w} {a = a} {b = b} e (Err f) command same is refused = record {
+  fed_refused {w = w} {a = a} {b = b} {x = x} e (Err f) command same is refused = record {
     carried = tt;
     left = subst (λ (l : List Submitted). Leaves view answers a b l) is refused.left;
-    said = inr (subst (λ (d : Fault). SaysSome view answers marks d w w a b []) (sym same) (refused_some view answers marks e w command a b refused.refused));
+    said = inr (subst (λ (d : Fault). SaysSome view answers marks d w w a b x []) (sym same)
+        (refused_some view answers marks e w command a b refused.refused (subst (Begins (submitted_in command refused.refused.reply)) is refused.submitted)));
   }
 
   -- a note was to be written
@@ -217,12 +220,12 @@ module _ {D : Type 0} {view : D → DiskView} {answers : Answers} {marks : Bool}
 
   -- or it was not
   pub fed_unanswered : {w : Option (List ℕ)} {a b : Keeping D} {ns : List Aside} (e : Fault) (r : Result (Unit {0}) Fault) (command : Command) → IsErrAnd r (λ f. f ≡ e) → Carries answers a b []
-      → Refuses view answers e command a b → FeedsNoting view answers marks r w w a b [] ns
-  fed_unanswered e (Ok d) command none carried refused = absurd none
-  fed_unanswered {w = w} {a = a} {b = b} {ns = ns} e (Err f) command same carried refused = record {
+      → ((reply : Reply) → submitted_in command reply ≡ []) → Refuses view answers e command a b → FeedsNoting view answers marks r w w a b [] ns
+  fed_unanswered e (Ok d) command none carried nothing refused = absurd none
+  fed_unanswered {w = w} {a = a} {b = b} {ns = ns} e (Err f) command same carried nothing refused = record {
     carried = tt;
     left = leaves_none view answers a b [] carried;
-    said = inr (subst (λ (d : Fault). SaysSome view answers marks d w w a b ns) (sym same) (unanswered view answers marks e w command a b ns refused));
+    said = inr (subst (λ (d : Fault). SaysSome view answers marks d w w a b [] ns) (sym same) (unanswered view answers marks e w command a b ns nothing refused));
   }
 
   -- it was to be written that the journal is full

@@ -1,9 +1,9 @@
 -- The steps of a feed under way: what comes of a call, and of steps, one after another.
-use Rattle.std.proofs.Common.{◌≡◌, ◌⊎◌, inl, inr, ⊎_elim, ℕ, ◌+◌, ◌-◌, ◌<◌, ◌≤◌, nat_lt, Bool, true, false, List, [], ◌∷◌, drop, length, refl, sym, ap, ◌∙◌, subst, arith}
-use Rattle.std.specs.Prelude.{Option, Some, None, min, max, Result, Ok, Err, OnOk, IfOk, IfErr}
+use Rattle.std.proofs.Common.{◌≡◌, ◌⊎◌, inl, inr, ⊎_elim, ℕ, ◌-◌, ◌<◌, ◌≤◌, nat_lt, Bool, true, false, List, [], ◌∷◌, drop, length, refl, sym, ap, ◌∙◌, subst, arith}
+use Rattle.std.specs.Prelude.{Option, Some, None, min, Result, Ok, Err, OnOk, IfOk, IfErr}
 use Rattle.std.specs.Result.{IsErrAnd}
 use Rattle.std.specs.Io.KnownBytes.{Appends}
-use Rattle.std.proofs.Math.Nat.{le-max_left, le-max_right, min-eq_left, min-eq_right}
+use Rattle.std.proofs.Math.Nat.{le-max_right, min-eq_left, min-eq_right}
 use Rattle.std.proofs.lemmas.Bool.{ltb-true, ltb-false}
 use Rattle.std.proofs.lemmas.List.{length-drop}
 use Rattle.td_calls.specs.Answers.{Answers}
@@ -17,12 +17,13 @@ use Rattle.td_keeper.specs.declared.command.Reply.{Reply}
 use Rattle.td_keeper.specs.Keeping.{Keeping, since_base, with_checkpoint}
 use Rattle.td_keeper.specs.Halls.{place_between}
 use Rattle.td_keeper.specs.declared.command.Command.TheVariants.{WriteCut, CloseFree, Answer}
-use Rattle.td_keeper.specs.Driven.{may_write, submitted_in, Asks, Cuts, Obeys, answered, closed, cut, cutting, written}
+use Rattle.td_keeper.specs.Driven.{may_write, Asks, Cuts, Obeys, answered, closed, cut, cutting, written}
 use Rattle.td_console.specs.declared.faults.Fault.{Fault}
 use Rattle.td_console.specs.declared.faults.Fault.TheVariants.{Output, Memory, Keeper as AsKeeper}
 use Rattle.td_console.specs.Refusals.{keeper_fault}
 use Rattle.td_stamp.specs.States.{StateList}
 use Rattle.td_questions.specs.declared.question.Wanted.{Wanted as Of}
+use Rattle.td_questions.specs.Lines.{answer_lines}
 use Rattle.td_orders.specs.Noted.Aside.{to_answer}
 use Rattle.td_orders.specs.declared.at_once.Asked.{Asked}
 use Rattle.td_orders.specs.declared.at_once.Asked.TheVariants.{One}
@@ -35,11 +36,11 @@ use Rattle.td_feed.specs.Carried.{batch_in, new_to, is_refused, IsRising, Carrie
 use Rattle.td_feed.specs.Caused.{IsOfWriter}
 use Rattle.td_feed.specs.Copied.{Copied}
 use Rattle.td_feed.specs.Fed.{HasRoom}
-use Rattle.td_feed.specs.Held.{SameBase, KeepsTo}
+use Rattle.td_feed.specs.Held.{KeepsTo}
 use Rattle.td_feed.specs.Said.{line_of, answer_text, request_in, fault_in}
 use Rattle.td_feed.specs.Session.{KeepsDisk, Feeds, FeedsNoting, FeedsCopying}
 use Rattle.td_feed.specs.Stepping.{faulted, outcome_if, outcome_of, Comes, IsQuiet, Stays, IsCheckpointed, KeepsSeen, HasCut, IsInTime, KeepsPace, Steps, Does}
-use Rattle.td_feed.proofs.Carrying.{at_ok, at_err, leaves_all, unmoved}
+use Rattle.td_feed.proofs.Carrying.{at_ok, at_err, leaves_all}
 use Rattle.td_feed.proofs.Causes.{told_fault, if_of_keeper, handed}
 use Rattle.td_feed.proofs.Counting.{fault_of, keeper_device}
 use Rattle.td_feed.proofs.Held.{base_itself, base_then, keeps_same, keeps_then}
@@ -176,6 +177,21 @@ module _ {D W : Type 0} {view : D → DiskView} {answers : Answers} {marks : Boo
             fault = fault;
           }
 
+-- what is said of an answer, by the reply that it is
+pub refused_answer : {P : Type 0} {r : Result (Unit {0}) Fault} (a : Result (ℕ × StateList) KeeperError) → IfErr a (λ e. (r ≡ Err (keeper_fault e)) × P)
+    → is_refused (answered a) ≡ true → (r ≡ Err (fault_in (answered a))) × P
+refused_answer (Ok x) none is = absurd (let no = is in cc)
+refused_answer (Err e) holds is = holds
+
+pub said_answer : (r : Result (Unit {0}) Fault) (u v : Option (List ℕ)) (vertex : ℕ) (wanted : Of) (a : Result (ℕ × StateList) KeeperError) → IfOk a (λ x. OnOk r (Appends u v (answer_lines x.0 vertex wanted x.1)))
+    → is_refused (answered a) ≡ false → OnOk r (Appends u v (answer_text vertex wanted (answered a)))
+said_answer r u v vertex wanted (Ok x) said is = said
+said_answer r u v vertex wanted (Err e) none is = absurd (let no = is in cc)
+
+pub unsaid_answer : {Q : Type 0} (a : Result (ℕ × StateList) KeeperError) → OnOk a Q → is_refused (answered a) ≡ false → Q
+unsaid_answer (Ok x) holds is = holds
+unsaid_answer (Err e) none is = absurd (let no = is in cc)
+
 -- A QUESTION, whose answer is said
 pub answer_said : {D : Type 0} {view : D → DiskView} {answers : Answers} {marks : Bool} {u v : Option (List ℕ)} (vertex : ℕ) (wanted : Of) (reply : Reply) (old new : Keeping D) (r : Result (Unit {0}) Fault) (P : Type 0)
     → Comes view answers (Answer vertex wanted) reply old new
@@ -189,7 +205,7 @@ answer_said {view = view} {answers = answers} {marks = marks} {u = u} {v = v} ve
         let f = fault_in reply in
         subst (λ (q : Result (Unit {0}) Fault). FeedsNoting view answers marks q u v old new [] (to_answer vertex wanted ∷ [])) (sym (refused is).0)
         (subst (λ (w : Option (List ℕ)). FeedsNoting view answers marks (outcome_if true f) u w old new [] (to_answer vertex wanted ∷ [])) (sym (same (refused is).1))
-        (fed_unanswered f (Err f) (Answer vertex wanted) refl (comes.rests refl) (comes.refused is).refused))
+        (fed_unanswered f (Err f) (Answer vertex wanted) refl (comes.rests refl) (λ r. refl) (comes.refused is).refused))
     by false is = fed_answer r vertex wanted reply (comes.obeyed is) (comes.rests refl) (said is) (unsaid is) same
 
 -- no device is called for it
@@ -259,7 +275,7 @@ module _ {D : Type 0} where
 
   pub pace_still : (pace : Pace) (seen : Option ℕ) (old new : Keeping D) → new.standing ≡ old.standing → new.head ≡ old.head → KeepsPace pace seen old → KeepsPace pace seen new
   pace_still AtEnd seen old new stands head is = tt
-  pace_still (Live every most hold) seen old new stands head is = in_time_still every seen old new stands head is
+  pace_still (Live every hold) seen old new stands head is = in_time_still every seen old new stands head is
 
   -- A CUT TAKEN AT THE END, or up to what was seen, and written
   pub cut_to_the_end : {answers : Answers} (seen : Option ℕ) (base : ℕ) (old new : Keeping D) → old.base ≡ place_between base (last_epoch old.standing) seen → IsCheckpointed answers old new → HasCut seen new

@@ -1,12 +1,13 @@
 -- What one command leaves of a keeper.
-use Rattle.std.proofs.Common.{◌≡◌, ◌⊎◌, ⊎_elim, inr, ℕ, ◌+◌, ◌^◌, Bool, true, false, ◌&&◌, not, nat_le, nat_lt, List, [], ◌∷◌, length, refl, sym, ap, ◌∙◌, subst, arith}
-use Rattle.std.specs.Prelude.{Option, Some, None, if◌then◌else◌, Result, Ok, Err, IfOk, IfErr, OnErr}
+use Rattle.std.proofs.Common.{◌≡◌, ◌⊎◌, ⊎_elim, inr, ℕ, ◌+◌, ◌^◌, Bool, true, false, ◌&&◌, not, nat_le, nat_lt, List, [], ◌∷◌, ◌++◌, length, refl, sym, ap, ◌∙◌, subst, arith}
+use Rattle.std.specs.Prelude.{Option, Some, None, if◌then◌else◌}
 use Rattle.td_stamp.specs.declared.values.Entry.{Entry}
 use Rattle.td_calls.specs.Answers.{Answers}
 use Rattle.td_disk.specs.Disk.{DiskView}
 use Rattle.td_journal.specs.declared.submitted.Submitted.{Submitted as AnySubmitted}
 use Rattle.td_store.specs.standing.Standing.{last_epoch, last_request, submission}
 use Rattle.td_store.specs.standing.Advanced.{SinceAdvance}
+use Rattle.td_store.specs.standing.Stops.{Begins}
 use Rattle.td_store.specs.declared.standing.error.KeeperError.{KeeperError}
 use Rattle.td_store.specs.declared.standing.error.KeeperError.TheVariants as error
 use Rattle.td_keeper.specs.declared.group.GroupError.{GroupError}
@@ -21,9 +22,10 @@ use Rattle.td_keeper.specs.Received.{IsReceived, received_in}
 use Rattle.td_store.specs.group.Groups.{may_follow}
 use Rattle.td_keeper.specs.Refused.{is_new, has_number, all_accepted, all_few}
 use Rattle.td_keeper.specs.Keeping.{Keeping, IsKeeping}
-use Rattle.td_keeper.specs.Driven.{submitted_in, may_write, Obeys, Rests}
+use Rattle.td_keeper.specs.Driven.{submitted_in, is_device, is_of_device, may_write, Obeys, Rests}
 use Rattle.td_feed.specs.Carried.{Carries, Stopped, Leaves, batch_in, new_to, is_refused, is_repeated, is_resting, IsRising}
 use Rattle.td_orders.specs.OrderProofs.{new_one, old_one, all_new}
+use Rattle.td_feed.proofs.Lines.{begins_all}
 use Rattle.td_feed.proofs.Carrying.{Stands-on, Cuts-on, unmoved, submitted, grouped, checkpointed, leaves_none, stopped_one, stopped_none, stopped_all}
 
 -- a reply that is none
@@ -432,3 +434,45 @@ module _ {D : Type 0} (view : D → DiskView) (answers : Answers) where
   not_repeated c (Written w) old new obeys rises = refl
   not_repeated c (Answered m ys) old new obeys rises = refl
   not_repeated c Closed old new obeys rises = refl
+
+-- the device's refusal
+device_is : (e : KeeperError) → is_device e ≡ true → e ≡ error.Device
+device_is error.Device is = refl
+device_is e is = absurd (let no : false ≡ true = is in cc)
+
+-- these, or none of them
+these_if : (b : Bool) (x : List AnySubmitted) → Begins (if b then x else []) x
+these_if true x = begins_all x x refl
+these_if false x = (x, refl)
+
+module _ {D : Type 0} (view : D → DiskView) (answers : Answers) where
+  -- a request that was refused, of which nothing was submitted, or its batch, where the device failed
+  request_begins : (request : ℕ) (batch : List Entry) (e : KeeperError) (b : Option (List Entry)) (old new : Keeping D) → Obeys view answers (SubmitAs request batch) (Refused e b) old new
+      → Begins (submitted_in (SubmitAs request batch) (Refused e b)) (new_to old (submission request batch ∷ []))
+  request_begins request batch e b old new obeys = by (is_device e) (is_new old.standing request) refl refl
+    where
+      s : AnySubmitted
+      s = submission request batch
+
+      never : e ≡ error.Device → (e ≡ error.Broken) ⊎ (e ≡ error.OldVersion) → ⊥
+      never device why = ⊎_elim (λ broken. (let no : error.Device ≡ error.Broken = sym device ∙ broken in absurd cc)) (λ version. (let no : error.Device ≡ error.OldVersion = sym device ∙ version in absurd cc)) why
+
+      by : (failed new_one_is : Bool) → is_device e ≡ failed → is_new old.standing request ≡ new_one_is → Begins (submitted_in (SubmitAs request batch) (Refused e b)) (new_to old (s ∷ []))
+      by false new_is none is = (new_to old (s ∷ []), ap (λ (c : Bool). (if c then s ∷ [] else []) ++ new_to old (s ∷ [])) (sym none))
+      by true true device is =
+          begins_all (submitted_in (SubmitAs request batch) (Refused e b)) (new_to old (s ∷ [])) (ap (λ (c : Bool). if c then s ∷ [] else []) device ∙ sym (new_one (last_request old.standing) s is))
+      by true false device is = absurd (never (device_is e device) (obeys.0.repeated is))
+
+  -- WHAT A REFUSED COMMAND SUBMITTED begins what it would submit
+  pub refused_begins : (c : Command) (r : Reply) (old new : Keeping D) → is_refused r ≡ true → Obeys view answers c r old new → IsRising old c → Begins (submitted_in c r) (new_to old (batch_in c))
+  refused_begins (Submit batch) (Refused e b) old new is obeys rises = these_if (is_device e) (submission 0 batch ∷ [])
+  refused_begins (Submit batch) (RefusedAll e xs) old new is obeys rises = absurd obeys.0
+  refused_begins (Submit batch) r old new is obeys rises = absurd (let no : false ≡ true = is in cc)
+  refused_begins (SubmitAs request batch) (Refused e b) old new is obeys rises = request_begins request batch e b old new obeys
+  refused_begins (SubmitAs request batch) (RefusedAll e xs) old new is obeys rises = absurd obeys.0
+  refused_begins (SubmitAs request batch) r old new is obeys rises = absurd (let no : false ≡ true = is in cc)
+  refused_begins (SubmitAll group) (RefusedAll e xs) old new is obeys rises =
+      subst (λ (l : List AnySubmitted). Begins (submitted_in (SubmitAll group) (RefusedAll e xs)) l) (sym (all_new (last_request old.standing) group rises)) (these_if (is_of_device e) group)
+  refused_begins (SubmitAll group) (Refused e b) old new is obeys rises = absurd obeys.0
+  refused_begins (SubmitAll group) r old new is obeys rises = absurd (let no : false ≡ true = is in cc)
+  refused_begins c r old new is obeys rises = ([], refl)

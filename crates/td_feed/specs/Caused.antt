@@ -1,5 +1,6 @@
 -- Why a feed or a stream is refused.
-use Rattle.std.specs.Prelude.{◌≡◌, ◌⊎◌, ℕ, Bool, true, false, List, ◌∷◌, ◌++◌, length, Some, Result, Err, IfErr, IsErr}
+use Rattle.std.specs.Prelude.{◌≡◌, ◌⊎◌, ℕ, Bool, true, false, List, ◌∷◌, ◌++◌, length, Option, Some, Result, Err, OnOk, IfErr, IsErr}
+use Rattle.std.specs.Io.KnownBytes.{Appends}
 use Rattle.td_plan.specs.Lines.{Line as PlanLine}
 use Rattle.td_calls.specs.Answers.{Answers}
 use Rattle.td_disk.specs.Disk.{DiskView}
@@ -18,7 +19,7 @@ use Rattle.td_orders.specs.Lines.{has_overlong}
 use Rattle.td_orders.specs.Placed.{placed}
 use Rattle.td_orders.specs.Scripts.{Script}
 use Rattle.td_report.specs.Shown.{AlwaysHasRoom}
-use Rattle.td_feed.specs.declared.streaming.StreamOptions.{StreamOptions}
+use Rattle.td_feed.specs.declared.session.StreamOptions.{StreamOptions}
 use Rattle.td_feed.specs.Fed.{EachTellsHistory}
 use Rattle.td_feed.specs.Session.{script_by}
 
@@ -32,6 +33,16 @@ is_of_keeper _ = false
 abbrev pub IsOfWriter : {W : Type 0} → (W → ℕ → Type 0) → Fault → Type 0
 IsOfWriter has Output = AlwaysHasRoom has → ⊥
 IsOfWriter has f = is_of_keeper f ≡ true
+
+-- A LINE WAS NOT WRITTEN: the writer failed, or memory was lacking for the line, with nothing written
+abbrev pub IsUnsaid : {W : Type 0} → W → W → Fault → Type 0
+IsUnsaid old new f = (f ≡ Output) ⊎ ((f ≡ Memory) × (new ≡ old))
+
+-- A LINE IS WRITTEN, or the writer failed, or memory was lacking
+pub record Writes {W : Type 0} (contents : W → Option (List ℕ)) (has : W → ℕ → Type 0) (result : Result (Unit {0}) Fault) (old new : W) (line : List ℕ) : Type 0 where
+  pub said : OnOk result (Appends (contents old) (contents new) line)
+  pub unsaid : IfErr result (IsUnsaid old new)
+  pub fault : IfErr result (IsOfWriter has)
 
 -- a line that says what was seen is refused for that alone
 abbrev pub IsOfSeen : Order → ℕ → LineFault → Type 0

@@ -28,7 +28,7 @@ first_seen false kept = None
 
 abbrev pub seen_at : Pace → ℕ → Option ℕ
 seen_at AtEnd kept = None
-seen_at (Live every most hold) kept = first_seen hold kept
+seen_at (Live every hold) kept = first_seen hold kept
 
 -- and after some orders, or after what was asked for
 abbrev pub then_seen : Option ℕ → List Order → Option ℕ

@@ -5,7 +5,6 @@ pub mod Copied
 pub mod Said
 pub mod Upgraded
 pub mod Session
-pub mod Working
 pub mod Groups
 pub mod Caused
 pub mod Stepping

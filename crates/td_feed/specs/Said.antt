@@ -17,6 +17,7 @@ use Rattle.td_store.specs.standing.Told.{Told}
 use Rattle.td_store.specs.standing.Tells.{Keeps}
 use Rattle.td_store.specs.standing.Standing.{Standing, last_epoch, last_request}
 use Rattle.td_store.specs.standing.Advanced.{HeldWhere}
+use Rattle.td_store.specs.standing.Stops.{Begins}
 use Rattle.td_keeper.specs.declared.command.Command.{Command}
 use Rattle.td_keeper.specs.declared.command.Reply.{Reply}
 use Rattle.td_keeper.specs.declared.command.Reply.TheVariants.{Submitted, SubmittedAs, SubmittedAll, Out, Answered, Written, Refused, RefusedAll}
@@ -194,11 +195,12 @@ module _ {D : Type 0} (view : D → DiskView) (answers : Answers) (marks : Bool)
     pub noted : notes_among sayings ≡ notes
     pub said : Appends before after (lines_of marks sayings)
 
-  -- or a beginning of them: no line is written before its reply, and the notes are the first of these; and where a keeper's refusal ended it,
-  -- that is one of the replies
-  pub record SaysSome (fault : Fault) (before after : Option (List ℕ)) (old new : Keeping D) (notes : List Aside) : Type 0 where
+  -- or a beginning of them: what was submitted begins these, no line is written before its reply, and the notes are the first of these; and where
+  -- a keeper's refusal ended it, that is one of the replies
+  pub record SaysSome (fault : Fault) (before after : Option (List ℕ)) (old new : Keeping D) (x : List AnySubmitted) (notes : List Aside) : Type 0 where
     pub sayings : List Saying
     pub driven : Driven view answers (commands_in sayings) (replies_in sayings) old new
+    pub submitted : Begins (submitted_by (commands_in sayings) (replies_in sayings)) x
     pub later : List Aside
     pub noted : notes_among sayings ++ later ≡ notes
     pub text : List ℕ
@@ -208,15 +210,16 @@ module _ {D : Type 0} (view : D → DiskView) (answers : Answers) (marks : Bool)
     pub cause : IsOfReplies fault (replies_in sayings)
 
   -- or nothing is known of the writer, which failed
-  pub record SaysUnheard (old new : Keeping D) : Type 0 where
+  pub record SaysUnheard (old new : Keeping D) (x : List AnySubmitted) : Type 0 where
     pub commands : List Command
     pub replies : List Reply
     pub driven : Driven view answers commands replies old new
+    pub submitted : Begins (submitted_by commands replies) x
 
   -- all of them after Ok, and a beginning at a refusal
   abbrev pub SaysBy : Result (Unit {0}) Fault → Option (List ℕ) → Option (List ℕ) → Keeping D → Keeping D → List AnySubmitted → List Aside → Type 0
   SaysBy (Ok done) before after old new x notes = Says before after old new x notes
-  SaysBy (Err fault) before after old new x notes = ((fault ≡ Output) × SaysUnheard old new) ⊎ SaysSome fault before after old new notes
+  SaysBy (Err fault) before after old new x notes = ((fault ≡ Output) × SaysUnheard old new x) ⊎ SaysSome fault before after old new x notes
 
   -- A FEED OF A DISK: its keeper is what the disk tells, perhaps with a watch attached, and what was written are the lines of what
   -- that keeper replied; it was told what submits those of these that are new to it; and the disk that is left holds what the keeper

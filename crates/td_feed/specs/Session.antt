@@ -1,7 +1,10 @@
 -- What a call does with a disk, with a keeper at work and with a writer, by its answer.
 use Rattle.std.specs.Prelude.{◌≡◌, ◌⊎◌, ℕ, Bool, false, true, List, [], ◌∷◌, ◌++◌, length, All, Option, Some, None, Result, Ok, OnOk, OnErr, IsErr}
 use Rattle.td_plan.specs.Lines.{Line as PlanLine}
+use Rattle.td_plan.specs.Blocks.{vertices}
 use Rattle.td_calls.specs.Answers.{Answers}
+use Rattle.td_calls.specs.declared.error.CallsError.{CallsError}
+use Rattle.td_calls.specs.Fits.{first_lack}
 use Rattle.td_watch.specs.View.{View}
 use Rattle.td_head.specs.declared.head.Head.{Head}
 use Rattle.td_disk.specs.Disk.{DiskView, DiskState}
@@ -11,6 +14,7 @@ use Rattle.td_store.specs.declared.standing.error.KeeperError.TheVariants.{Devic
 use Rattle.td_store.specs.standing.Standing.{Standing, last_epoch, last_request}
 use Rattle.td_store.specs.standing.Told.{Told}
 use Rattle.td_store.specs.standing.Tells.{Keeps}
+use Rattle.td_store.specs.standing.Stops.{Begins}
 use Rattle.td_keeper.specs.declared.command.Command.{Command}
 use Rattle.td_keeper.specs.declared.command.Reply.{Reply}
 use Rattle.td_disk.specs.Calls.{KeepsDevice}
@@ -18,18 +22,22 @@ use Rattle.td_keeper.specs.Keeping.{Keeping, EachKeepsTo, EverKeepsTo, IsSameWat
 use Rattle.td_keeper.specs.Driven.{submitted_in, Obeys, Driven}
 use Rattle.td_console.specs.declared.faults.Fault.{Fault}
 use Rattle.td_console.specs.declared.faults.Fault.TheVariants.{Keeper}
-use Rattle.td_feed.specs.declared.streaming.StreamOptions.{StreamOptions}
+use Rattle.td_feed.specs.declared.session.StreamOptions.{StreamOptions}
 use Rattle.td_orders.specs.Noted.{Aside, ComeOf, copied_in}
 use Rattle.td_orders.specs.Orders.{submissions, notes_in, new_after}
 use Rattle.td_orders.specs.Scripts.{Script, script_of}
 use Rattle.td_orders.specs.Placed.{placed}
-use Rattle.td_feed.specs.Fed.{EachTellsHistory, EachTellsSome, IsCutInTime}
+use Rattle.td_feed.specs.Fed.{EachTellsHistory, EachTellsSome, TellsOnward, IsCutInTime}
 use Rattle.td_feed.specs.declared.under_way.Pace.{Pace}
 use Rattle.td_feed.specs.declared.under_way.Pace.TheVariants.{Live}
 use Rattle.td_feed.specs.Held.{TellsSeen, first_seen, seen_after}
 use Rattle.td_feed.specs.Carried.{batch_in, new_to, is_refused, Carries, Leaves}
 use Rattle.td_feed.specs.Copied.{Copied, with_copies, labels, IsCopyOf, MakesCopies}
 use Rattle.td_feed.specs.Said.{Wanted, SaysBy, SaysFed, copies_said, Refuses}
+
+-- the first vertex of a plan whose closure is lacking, by the words of these closures for the codes of each kind
+abbrev pub lack_of : {C : Type 0} → (C → ℕ → Bool) → (C → ℕ → Bool) → (C → ℕ → Bool) → C → List PlanLine → Option CallsError
+lack_of has_map has_group has_fold calls plan = first_lack (has_map calls) (has_group calls) (has_fold calls) (vertices plan)
 
 -- how many records an epoch may have, where a stream refuses epochs
 abbrev pub limit_of : Bool → ℕ → Option ℕ
@@ -54,7 +62,7 @@ asked_at how plan k input = placed how.refuse (last_epoch k.standing) (last_requ
 
 -- at which pace a stream goes
 abbrev pub pace_of : StreamOptions → Pace
-pace_of how = Live how.cut_every how.most how.hold
+pace_of how = Live how.cut_every how.hold
 
 -- and what it asks for
 abbrev pub wanted_of : StreamOptions → ℕ → List PlanLine → List ℕ → Wanted
@@ -76,6 +84,7 @@ module _ {D : Type 0} (view : D → DiskView) (answers : Answers) where
   pub record IsNotObeyed (fault : Fault) (command : Command) (old new : Keeping D) : Type 0 where
     pub refused : Refuses view answers fault command old new
     pub left : Leaves view answers old new (new_to old (batch_in command))
+    pub submitted : Begins (submitted_in command refused.reply) (new_to old (batch_in command))
 
 module _ {D : Type 0} (view : D → DiskView) (answers : Answers) (marks : Bool) where
   -- THESE ARE FED, and these noted, answered or copied: after Ok the keeper goes on with all of them, after a refusal with some; and what was
@@ -98,6 +107,10 @@ module _ {D : Type 0} (view : D → DiskView) (answers : Answers) (marks : Bool)
     -- at any answer it stands for that and a beginning of them: some number of them, or with these the whole group that came next
     pub safe : (view disk).lawful → (history : List AnySubmitted) → EachTellsHistory answers plan history (view disk).state
         → EachTellsSome answers plan history (new_after (greatest 0 history) (wanted.epochs (length history) (greatest 0 history))) (view left).state
+    -- AND AT EACH MOMENT meanwhile, in the middle of a write too, whatever a crash left tells that history and a beginning of them
+    pub ever : (view disk).lawful → (history : List AnySubmitted) → EachTellsHistory answers plan history (view disk).state
+        → (c : List ℕ) → (view left).state.since (view disk).state.moment c
+        → TellsOnward answers plan history (new_after (greatest 0 history) (wanted.epochs (length history) (greatest 0 history))) c
     -- what is written are the lines of what the keeper of the disk replied, and the notes, one after another: all of them after Ok, and
     -- a beginning of them at a refusal, where the writer did not fail
     pub said : SaysFed view answers marks result plan alone disk left before after wanted

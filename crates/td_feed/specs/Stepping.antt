@@ -105,7 +105,7 @@ IsInTime every seen k = HasCut seen k ⊎ HasRoom every k.head.shape.n k.standin
 -- nor at this pace
 abbrev pub KeepsPace : {D : Type 0} → Pace → Option ℕ → Keeping D → Type 0
 KeepsPace AtEnd seen k = Unit {0}
-KeepsPace (Live every most hold) seen k = IsInTime every seen k
+KeepsPace (Live every hold) seen k = IsInTime every seen k
 
 module _ {D W : Type 0} (view : D → DiskView) (answers : Answers) (marks : Bool) (has : W → ℕ → Type 0) where
   -- A STEP: these are submitted, and the lines of the keeper's replies are written. Nothing is kept beyond what was seen

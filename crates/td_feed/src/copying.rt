@@ -1,7 +1,7 @@
 //! Copying the disk of a stream between two of its epochs.
 //!
 //! What the keeper stands for is in memory, so the stream's own disk is not read for it, and no fault of a copy is one of the stream.
-ghost use Rattle.std.specs.Prelude.{◌≡◌, ◌⊎◌, ◌+◌, ◌^◌, ◌<◌, Bool, false, [], ◌∷◌, length, None, IfOk, OnErr, IfErr};
+ghost use Rattle.std.specs.Prelude.{◌≡◌, ◌⊎◌, Bool, false, [], ◌∷◌, None, IfOk, OnErr, IfErr};
 ghost use Rattle.td_store.specs.standing.Standing.{last_epoch};
 ghost use Rattle.td_store.specs.standing.Tells.{Keeps, first_head};
 ghost use Rattle.td_feed.specs.Caused.{IsOfWriter};
@@ -20,7 +20,7 @@ use td_keeper::laws::each_disk_holds;
 use td_orders::CopyTo;
 use td_store::copy::laws::told_rises;
 use td_store::copy::{check_room, write_told};
-use td_store::standing::{Recovered, laws};
+use td_store::standing::laws;
 
 /// Copies what a keeper stands for to a new disk, and writes `copied NEW E`, with the epoch up to which it goes, or `not copied NEW: WHAT`.
 /// Refusals: `Memory`, where there was no room for the line, and `Output`.
@@ -66,7 +66,9 @@ fn copied<D: Disk, L: Law, H: Host>(
         Ok(told) => told,
         Err(_memory) => return Err(Why::Memory),
     };
-    check_copy(alloc, copy, &told)?;
+    if let Err(refusal) = check_room(copy.shape, &told) {
+        return Err(Why::Because(format!(in alloc; "{refusal}")?));
+    }
     let mut disk = host.make(alloc, copy)?;
     match write_told(alloc, &mut disk, keeper.plan(), copy.shape, &told) {
         Ok(()) => {
@@ -78,15 +80,5 @@ fn copied<D: Disk, L: Law, H: Host>(
             drop(disk);
             Err(host.give_up(alloc, refusal))
         }
-    }
-}
-
-/// Whether a copy has room for this. Refusal: why not, in the words of `td_store::copy`.
-fn check_copy(alloc: Global, copy: &CopyTo, told: &Recovered) -> Result<(), Why>
-    requires small { told.now.checkpoint.epoch + length told.now.submitted.items < 2 ^ 63 }
-{
-    match check_room(copy.shape, told) {
-        Ok(()) => Ok(()),
-        Err(refusal) => Err(Why::Because(format!(in alloc; "{refusal}")?)),
     }
 }

@@ -9,25 +9,17 @@
 //! For example a feed of `0 7 1` and `.` submits one record as the next epoch, and writes `ack 1` on a new disk.
 #![tactic(auto)]
 
-mod alone;
 mod copying;
 mod feeder;
-mod feeding;
 mod host;
 pub mod laws;
-mod room;
 mod saying;
 mod session;
-mod settling;
-mod streaming;
 mod under_way;
 mod upgrading;
-mod voice;
-mod workers;
 
 pub use feeder::Fed;
 pub use host::{Host, NoHost, Why};
-pub use session::Session;
-pub use streaming::StreamOptions;
+pub use saying::{Marked, Voice};
+pub use session::{Session, StreamOptions};
 pub use upgrading::upgrade;
-pub use voice::{Marked, Voice};

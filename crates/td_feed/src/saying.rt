@@ -3,23 +3,76 @@
 //! A line stands for a reply, and what a reply says is the keeper's contract. So the text does not fix how many outputs a settle
 //! finds, which no contract of threads can. `again Q` has the number of the line, since a producer looks for the answer to what
 //! it sent.
-ghost use Rattle.std.specs.Prelude.{◌≡◌, ◌⊎◌, ◌-◌, ◌++◌, true, false, string_bytes, IfOk, IfErr, OnOk, Err};
+ghost use Rattle.std.specs.Prelude.{◌≡◌, ◌-◌, ◌++◌, Bool, true, false, string_bytes, IfOk, IfErr, OnOk, Err};
 ghost use Rattle.std.specs.Io.KnownBytes.{Appends};
+ghost use Rattle.td_console.specs.Refusals.{keeper_fault};
 ghost use Rattle.td_questions.specs.Lines.{answer_lines};
-ghost use Rattle.td_feed.specs.Caused.{IsOfWriter};
 ghost use Rattle.td_feed.specs.Carried.{is_refused, is_repeated};
-ghost use Rattle.td_feed.specs.Said.{line_of as line_in, fault_in, ack_line, ack_lines, answer_text, full_line, copied_line, not_copied_line, out_lines};
+ghost use Rattle.td_feed.specs.Caused.{IsOfWriter, IsUnsaid, Writes};
 ghost use Rattle.td_feed.specs.Copied.{why_text};
+ghost use Rattle.td_feed.specs.Said.{line_of as line_in, fault_in, ack_line, ack_lines, full_line, copied_line, not_copied_line, out_lines};
 
 use crate::host::Why;
-use crate::voice::Voice;
 use std::alloc::Global;
 use std::fmt::Write;
-use td_console::{Fault, Sink, print_epoch, write_answer};
+use std::io;
+use td_console::{Fault, Sink, StdWriter, print_epoch, write_answer};
 use td_keeper::{GroupError, Receipt, Reply};
 use td_orders::FileName;
-use td_questions::{Entry, Wanted, print_answer};
+use td_questions::{Entries, Entry, Wanted, print_answer};
 use td_stamp::EpochOut;
+use td_store::standing::KeeperError;
+
+/// A writer of a feed's lines, and whether each epoch is marked in it: `done E` stands after the output lines of an epoch E, also where it
+/// has none.
+pub trait Voice: Sink {
+    /// Whether epochs are marked.
+    ghost marks: { Bool };
+
+    /// Whether epochs are marked.
+    fn is_marking(&self) -> bool
+        ensures { result ≡ marks };
+}
+
+/// No epoch is marked.
+impl Voice for Vec<u8> {
+    ghost marks = { false };
+
+    fn is_marking(&self) -> bool {
+        false
+    }
+}
+
+/// No epoch is marked.
+impl<W: io::Write> Voice for StdWriter<W> {
+    ghost marks = { false };
+
+    fn is_marking(&self) -> bool {
+        false
+    }
+}
+
+/// A writer in which each epoch is marked.
+#[derive(Drop)]
+pub struct Marked<W>(pub W);
+
+impl<W: Sink> Sink for Marked<W> {
+    ghost contents = { λ w. W.contents w.0 };
+
+    ghost HasRoom = { λ w n. W.HasRoom w.0 n };
+
+    fn write_text(&mut self, text: &[u8]) -> io::Result<()> {
+        self.0.write_text(text)
+    }
+}
+
+impl<W: Sink> Voice for Marked<W> {
+    ghost marks = { true };
+
+    fn is_marking(&self) -> bool {
+        true
+    }
+}
 
 /// Writes the lines of a reply to a command with this request number, where it has some. Refusals: the keeper's, where the reply is one;
 /// `Memory`, with nothing written; and `Output`.
@@ -32,7 +85,7 @@ pub(crate) fn say<W: Voice>(
     requires new { is_repeated reply ≡ false }
     ensures refused { is_refused reply ≡ true → (result ≡ Err (fault_in reply)) × (writer.new ≡ writer.old) }
     ensures said { is_refused reply ≡ false → OnOk result (Appends (W.contents writer.old) (W.contents writer.new) (line_in W.marks request reply)) }
-    ensures unsaid { is_refused reply ≡ false → IfErr result (λ f. (f ≡ Fault.Output) ⊎ ((f ≡ Fault.Memory) × (writer.new ≡ writer.old))) }
+    ensures unsaid { is_refused reply ≡ false → IfErr result (IsUnsaid writer.old writer.new) }
     ensures fault { IfErr result (IsOfWriter W.HasRoom) }
 {
     let reply = unless_refused(reply)?;
@@ -40,22 +93,22 @@ pub(crate) fn say<W: Voice>(
     write_answer(writer, line.as_str())
 }
 
-/// Writes the lines of an answer to what is wanted of a fold. Refusals: those of `say`.
+/// Writes the lines of an answer to what is wanted of a fold. Refusals: the keeper's, where it is one; and those of `say`.
 pub(crate) fn say_answer<W: Voice>(
     alloc: Global,
     vertex: u8,
     wanted: Wanted,
-    reply: Reply,
+    answer: Result<(u64, Entries), KeeperError>,
     writer: &mut W,
 ) -> Result<(), Fault>
-    requires new { is_repeated reply ≡ false }
-    ensures refused { is_refused reply ≡ true → (result ≡ Err (fault_in reply)) × (writer.new ≡ writer.old) }
-    ensures said { is_refused reply ≡ false → OnOk result (Appends (W.contents writer.old) (W.contents writer.new) (answer_text vertex wanted reply)) }
-    ensures unsaid { is_refused reply ≡ false → IfErr result (λ f. (f ≡ Fault.Output) ⊎ ((f ≡ Fault.Memory) × (writer.new ≡ writer.old))) }
+    ensures refused { IfErr answer (λ error. (result ≡ Err (keeper_fault error)) × (writer.new ≡ writer.old)) }
+    ensures said { IfOk answer (λ a. OnOk result (Appends (W.contents writer.old) (W.contents writer.new) (answer_lines a.0 vertex wanted a.1))) }
+    ensures unsaid { OnOk answer (IfErr result (IsUnsaid writer.old writer.new)) }
     ensures fault { IfErr result (IsOfWriter W.HasRoom) }
 {
-    let reply = unless_refused(reply)?;
-    let lines = answer_text(alloc, vertex, wanted, &reply)?;
+    let (epoch, entries) = answer?;
+    let mut lines = String::new(alloc);
+    print_entries(&mut lines, epoch, vertex, wanted, entries.as_slice())?;
     write_answer(writer, lines.as_str())
 }
 
@@ -75,22 +128,7 @@ fn unless_refused(reply: Reply) -> Result<Reply, Fault>
     }
 }
 
-/// The lines of an answer: `state E V KEY A B` for each entry, or `none E V KEY`, and `asked E`. Refusal: `Memory`.
-fn answer_text(alloc: Global, vertex: u8, wanted: Wanted, reply: &Reply) -> Result<String, Fault>
-    ensures ok { IfOk result (λ lines. string_bytes lines ≡ answer_text vertex wanted reply.now) }
-    ensures err { IfErr result (λ f. f ≡ Fault.Memory) }
-{
-    match reply {
-        Reply::Answered { epoch, entries } => {
-            let mut lines = String::new(alloc);
-            print_entries(&mut lines, *epoch, vertex, wanted, entries.as_slice())?;
-            Ok(lines)
-        }
-        _ => Ok(String::new(alloc)),
-    }
-}
-
-/// Appends the lines of an answer of an epoch. Refusal: `Memory`.
+/// Appends the lines of an answer of an epoch: `state E V KEY A B` for each entry, or `none E V KEY`, and `asked E`. Refusal: `Memory`.
 fn print_entries(
     lines: &mut String,
     epoch: u64,
@@ -109,9 +147,7 @@ fn print_entries(
 
 /// Writes `full E`. Refusals: `Memory`, with nothing written, and `Output`.
 pub(crate) fn say_full<W: Voice>(alloc: Global, epoch: u64, writer: &mut W) -> Result<(), Fault>
-    ensures said { OnOk result (Appends (W.contents writer.old) (W.contents writer.new) (full_line epoch)) }
-    ensures unsaid { IfErr result (λ f. (f ≡ Fault.Output) ⊎ ((f ≡ Fault.Memory) × (writer.new ≡ writer.old))) }
-    ensures fault { IfErr result (IsOfWriter W.HasRoom) }
+    ensures { Writes W.contents W.HasRoom result writer.old writer.new (full_line epoch) }
 {
     let line = format!(in alloc; "full {epoch}\n")?;
     write_answer(writer, line.as_str())
@@ -124,9 +160,7 @@ pub(crate) fn say_copied<W: Sink>(
     epoch: u64,
     writer: &mut W,
 ) -> Result<(), Fault>
-    ensures said { OnOk result (Appends (W.contents writer.old) (W.contents writer.new) (copied_line name.now epoch)) }
-    ensures unsaid { IfErr result (λ f. (f ≡ Fault.Output) ⊎ ((f ≡ Fault.Memory) × (writer.new ≡ writer.old))) }
-    ensures fault { IfErr result (IsOfWriter W.HasRoom) }
+    ensures { Writes W.contents W.HasRoom result writer.old writer.new (copied_line name.now epoch) }
 {
     let line = format!(in alloc; "copied {name} {epoch}\n")?;
     write_answer(writer, line.as_str())
@@ -139,9 +173,7 @@ pub(crate) fn say_not_copied<W: Sink>(
     why: &Why,
     writer: &mut W,
 ) -> Result<(), Fault>
-    ensures said { OnOk result (Appends (W.contents writer.old) (W.contents writer.new) (not_copied_line name.now (why_text why.now))) }
-    ensures unsaid { IfErr result (λ f. (f ≡ Fault.Output) ⊎ ((f ≡ Fault.Memory) × (writer.new ≡ writer.old))) }
-    ensures fault { IfErr result (IsOfWriter W.HasRoom) }
+    ensures { Writes W.contents W.HasRoom result writer.old writer.new (not_copied_line name.now (why_text why.now)) }
 {
     let line = format!(in alloc; "not copied {name}: {why}\n")?;
     write_answer(writer, line.as_str())

@@ -7,7 +7,7 @@ use Rattle.td_disk.specs.Disk.{DiskView, DiskState}
 use Rattle.td_journal.specs.declared.submitted.Submitted.{Submitted}
 use Rattle.td_keeper.specs.Acknowledged.{outs_of}
 use Rattle.td_console.specs.declared.faults.Fault.{Fault}
-use Rattle.td_feed.specs.declared.streaming.StreamOptions.{StreamOptions}
+use Rattle.td_feed.specs.declared.session.StreamOptions.{StreamOptions}
 use Rattle.td_feed.specs.Fed.{TellsHistory}
 use Rattle.td_feed.specs.Held.{seen_after}
 use Rattle.td_feed.specs.Said.{out_lines}

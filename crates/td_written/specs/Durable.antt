@@ -10,7 +10,7 @@ use Rattle.td_console.specs.declared.faults.Fault.{Fault}
 use Rattle.td_console.specs.Answer.{Stored, lack_fault}
 use Rattle.td_orders.specs.Orders.{orders_of, submitted_by}
 use Rattle.td_feed.specs.Said.{epochs_alone}
-use Rattle.td_feed.specs.declared.streaming.StreamOptions.{StreamOptions}
+use Rattle.td_feed.specs.declared.session.StreamOptions.{StreamOptions}
 use Rattle.td_feed.specs.Copied.{Copied}
 use Rattle.td_feed.specs.Caused.{RefusesFor, IsRefusedFor}
 use Rattle.td_feed.specs.Session.{KeepsDisk, FeedsDisk, StreamsCopying, TellsAround}

@@ -29,5 +29,5 @@ returns-in-Ok-write_told-clause-copied g c =
       ),
     )
 
-pub check_copy-requires : goal.check_copy-requires
-check_copy-requires g c = record { small = c.in-Ok.ensures.may_stand.small }
+pub check_room-requires : goal.check_room-requires
+check_room-requires g c = record { small = c.in-Ok.ensures.may_stand.small }

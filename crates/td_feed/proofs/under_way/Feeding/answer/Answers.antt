@@ -1,27 +1,22 @@
-use Rattle.std.proofs.Common.{◌≡◌, refl, sym, ap, ◌∙◌, subst}
+use Rattle.std.proofs.Common.{◌≡◌, refl, ap}
 use Rattle.td_keeper.specs.declared.command.Command.TheVariants.{Answer}
-use Rattle.td_keeper.specs.declared.command.Reply.{Reply}
 use Rattle.td_keeper.specs.Driven.{answered}
-use Rattle.td_feed.specs.Stepping.{Comes}
-use Rattle.td_feed.proofs.Stepping.{answer_said, answer_no_device}
+use Rattle.td_feed.proofs.Stepping.{answer_said, answer_no_device, refused_answer, said_answer, unsaid_answer}
 use Rattle.td_feed.proofs.under_way.Feeding.answer.Goals as goal
-
-pub say_answer-requires : goal.say_answer-requires
-say_answer-requires g c =
-    let k = g.E.Obey.keeping c.args.self.now.engine in
-    let comes = c.known.ensures.resting (Answer c.args.vertex c.args.wanted) (answered c.answer.result) k k refl c.known.ensures.keeper c.known.ensures.keeper c.answer.ensures c.requires.whole in
-    record { new = (subst (λ (r : Reply). Comes g.D.Disk.view g.L.Law.answers (Answer c.args.vertex c.args.wanted) r k k) (sym c.of_answer-reply.ensures) comes).new_one }
 
 pub returns-clause-steps : goal.returns-clause-steps
 returns-clause-steps g c =
     let k = g.E.Obey.keeping c.args.self.now.engine in
-    let comes = c.known.ensures.resting (Answer c.args.vertex c.args.wanted) (answered c.answer.result) k k refl c.known.ensures.keeper c.known.ensures.keeper c.answer.ensures c.requires.whole in
-    let there = subst (λ (r : Reply). Comes g.D.Disk.view g.L.Law.answers (Answer c.args.vertex c.args.wanted) r k k) (sym c.of_answer-reply.ensures) comes in
+    let a = c.answer-answer.result in
+    let comes = c.known.ensures.resting (Answer c.args.vertex c.args.wanted) (answered a) k k refl c.known.ensures.keeper c.known.ensures.keeper c.answer-answer.ensures c.requires.whole in
     let say = c.say_answer.ensures in
-    answer_said c.args.vertex c.args.wanted c.of_answer-reply.result k k c.say_answer.result (c.say_answer.new.writer ≡ c.args.self.now.writer) there say.refused say.said say.unsaid (λ same. ap g.W.Sink.contents same)
+    answer_said c.args.vertex c.args.wanted (answered a) k k c.say_answer.result (c.say_answer.new.writer ≡ c.args.self.now.writer) comes
+    (refused_answer a say.refused) (said_answer c.say_answer.result (g.W.Sink.contents c.args.self.now.writer) (g.W.Sink.contents c.say_answer.new.writer) c.args.vertex c.args.wanted a say.said) (unsaid_answer a say.unsaid) (λ same. ap g.W.Sink.contents same)
 
 pub returns-clause-no_device : goal.returns-clause-no_device
 returns-clause-no_device g c =
     let k = g.E.Obey.keeping c.args.self.now.engine in
+    let a = c.answer-answer.result in
     let say = c.say_answer.ensures in
-    answer_no_device g.D.Disk.view g.L.Law.answers c.args.vertex c.args.wanted c.answer.result c.of_answer-reply.result k c.say_answer.result (c.say_answer.new.writer ≡ c.args.self.now.writer) c.answer.ensures c.of_answer-reply.ensures say.refused say.unsaid
+    answer_no_device g.D.Disk.view g.L.Law.answers c.args.vertex c.args.wanted a (answered a) k c.say_answer.result (c.say_answer.new.writer ≡ c.args.self.now.writer) c.answer-answer.ensures refl
+    (refused_answer a say.refused) (unsaid_answer a say.unsaid)

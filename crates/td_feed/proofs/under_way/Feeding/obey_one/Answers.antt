@@ -1,4 +1,4 @@
-use Rattle.std.proofs.Common.{rules, ◌≡◌, ◌∙◌, ℕ, List, [], ◌∷◌, refl, sym, ap, subst}
+use Rattle.std.proofs.Common.{rules, ◌≡◌, ◌∙◌, ℕ, [], ◌∷◌, refl, ap, subst}
 use Rattle.std.specs.Prelude.{None, length}
 use Rattle.td_keeper.specs.Keeping.{Keeping}
 use Rattle.td_orders.specs.declared.order.Order.TheVariants as order

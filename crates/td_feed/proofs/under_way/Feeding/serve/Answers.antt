@@ -24,8 +24,8 @@ use Rattle.td_feed.proofs.Held.{base_itself, keeps_on}
 use Rattle.td_feed.proofs.Carrying.{at_ok, at_err}
 use Rattle.td_feed.proofs.Counting.{as_err, other_fault}
 use Rattle.td_feed.proofs.Replies.{of_reader_error}
-use Rattle.td_feed.proofs.Lines.{says_nothing, some_of_all, some_of_more, by_refusal, handed_on}
-use Rattle.td_feed.proofs.Obeyed.{HasObeyed, none_obeyed, some_obeyed, some_refused, some_held, held_there, some_seen, told_on, came_left, came_there, left_there, seen_there, is_sound, at_end_carried, at_end_left, at_end_said, at_end_came, at_end_copied, at_end_seen, none_left, none_of}
+use Rattle.td_feed.proofs.Lines.{says_nothing, some_of_all, some_of_longer, some_of_more, by_refusal, handed_on}
+use Rattle.td_feed.proofs.Obeyed.{HasObeyed, none_obeyed, some_obeyed, some_refused, some_held, held_there, some_seen, told_on, came_left, came_there, left_there, seen_there, is_sound, at_end_carried, at_end_left, at_end_said, at_end_came, at_end_copied, at_end_seen, none_left, none_of, some_later, later_there}
 use Rattle.td_feed.specs.Served.{script_at}
 use Rattle.td_feed.proofs.Placed.{next_script, script_same, next_there, AsksFrom, asks_there}
 use Rattle.td_feed.proofs.Causes.{if_of_writer, handed_of_writer, of_reader, of_seen, tells_there}
@@ -69,7 +69,7 @@ returns-in_err-keep_pace g c =
           in_some_is (script_at g.S.Asking.script old c.args.orders.now)
           (λ s there. err_fed _ r (notes_in s.orders) c.from_residual.ensures.1 (as_they_ask s.orders)
           (none_left view answers marks new_view old new (new_to old (submissions s.orders)) c.requires.whole (subst (λ (k : Keeping g.row.D.Denot). Leaves view answers k new []) c.allow.ensures fed.left))
-          (handed_on view answers marks r c.in_err-keep_pace.field-0.0 u u w old old new [] [] (new_to old (submissions s.orders)) [] [] (notes_in s.orders) (notes_in s.orders) refl c.from_residual.ensures.1 (says_nothing view answers marks u old)
+          (handed_on view answers marks r c.in_err-keep_pace.field-0.0 u u w old old new [] [] (new_to old (submissions s.orders)) [] [] (notes_in s.orders) (notes_in s.orders) refl (new_to old (submissions s.orders), refl) c.from_residual.ensures.1 (says_nothing view answers marks u old)
           (subst (λ (k : Keeping g.row.D.Denot). SaysBy view answers marks (Err c.in_err-keep_pace.field-0.0) u w k new [] []) c.allow.ensures fed.said))
           (subst (λ (has : Option (List (Copied g.row.H-New.Denot))). MakesCopies view new_view answers (copied_in (notes_in s.orders)) had has old (new_to old (submissions s.orders))) (sym c.tell_seen.ensures.copies)
           (subst (λ (said : List (List ℕ × ℕ)). MakesCopies view new_view answers said had had old (new_to old (submissions s.orders))) (sym (none_yet s.orders))
@@ -153,7 +153,7 @@ returns-in_err-asked g c =
           err_fed _ r (so.answered ++ later.0) c.from_residual-in_err-asked.ensures.1 later.1
           (known _ script s is (left_there view answers marks new_view script left left u v had has old there first seen so))
           (by_refusal view answers marks r (λ (f : Fault). f ≡ cause) u v old there (new_to old (submissions s.orders)) (so.answered ++ later.0) c.from_residual-in_err-asked.ensures.1
-          (λ f holds. inr (some_of_more view answers marks u v old there so.answered later.0 (so.answered ++ later.0) refl (some_of_all view answers marks f u v old there (new_to old (submissions so.done)) so.answered (of_reader_error f (ap is_of_reader holds ∙ c.in_err-asked.ensures.err)) so.said))))
+          (λ f holds. inr (some_of_more view answers marks u v old there so.answered later.0 (so.answered ++ later.0) refl (some_of_longer view answers marks u v old there so.answered (known _ script s is (later_there view answers marks new_view script left left u v had has old there first seen so)) (some_of_all view answers marks f u v old there (new_to old (submissions so.done)) so.answered (of_reader_error f (ap is_of_reader holds ∙ c.in_err-asked.ensures.err)) so.said)))))
           later.2);
       held = held_there view answers marks new_view script left left u v had has old there first seen so there (base_itself there);
       seen =
@@ -204,7 +204,7 @@ returns-in_err-next g c =
           err_fed _ r (so.answered ++ later.0) c.from_residual-in_err-next.ensures.1 later.1
           (known _ script s is (left_there view answers marks new_view script left left u v had has old there first seen so))
           (by_refusal view answers marks r (λ (f : Fault). f ≡ c.in_err-next.field-0.0) u v old there (new_to old (submissions s.orders)) (so.answered ++ later.0) c.from_residual-in_err-next.ensures.1
-          (λ f holds. inr (some_of_more view answers marks u v old there so.answered later.0 (so.answered ++ later.0) refl (some_of_all view answers marks f u v old there (new_to old (submissions so.done)) so.answered (of_reader_error f (ap is_of_reader holds ∙ c.in_err-next.ensures.err)) so.said))))
+          (λ f holds. inr (some_of_more view answers marks u v old there so.answered later.0 (so.answered ++ later.0) refl (some_of_longer view answers marks u v old there so.answered (known _ script s is (later_there view answers marks new_view script left left u v had has old there first seen so)) (some_of_all view answers marks f u v old there (new_to old (submissions so.done)) so.answered (of_reader_error f (ap is_of_reader holds ∙ c.in_err-next.ensures.err)) so.said)))))
           later.2);
       held = held_there view answers marks new_view script left left u v had has old there first seen so there (base_itself there);
       seen =
@@ -236,8 +236,8 @@ returns-in_default g c =
     let seen = c.loop-asked.seen in
     let so = c.loop-asked.invariant.obeyed in
     let next = next_script g.S.Asking.script there None c.next_asked.new.self in
-    let w = g.W.Sink.contents c.settle.new.writer in
-    let new = g.E.Obey.keeping c.settle.new.engine in
+    let w = g.W.Sink.contents c.settle.new.self.writer in
+    let new = g.E.Obey.keeping c.settle.new.self.engine in
     let r = c.settle.result in
     let none = none_of c.in_ok-asked.field-0 c.in_default.not-Some in
     let asks : Asks left next None =
@@ -370,7 +370,8 @@ returns-in_err-obey g c =
           known _ script s is (came_left view answers marks new_view script left next u v w had has then old there new asked first seen so asks fed.done fed.came fed.copied) in
           err_fed _ r ((so.answered ++ fed.done) ++ later.0) c.from_residual-in_err-obey.ensures.1 later.1
           (known _ script s is (some_refused view answers marks new_view script left next u v w had has then old there new asked first seen so asks fed.fed.left))
-          (handed_on view answers marks r e u v w old there new (new_to old (submissions so.done)) (new_to there (asked_for asked)) (new_to old (submissions s.orders)) so.answered fed.done later.0 ((so.answered ++ fed.done) ++ later.0) refl c.from_residual-in_err-obey.ensures.1 so.said fed.fed.said)
+          (handed_on view answers marks r e u v w old there new (new_to old (submissions so.done)) (new_to there (asked_for asked)) (new_to old (submissions s.orders)) so.answered fed.done later.0 ((so.answered ++ fed.done) ++ later.0) refl
+          (known _ script s is (some_later view answers marks new_view script left next u v w had has then old there new asked first seen so asks)) c.from_residual-in_err-obey.ensures.1 so.said fed.fed.said)
           later.2);
       held =
           some_held view answers marks new_view script left next u v w had has then old there new asked first seen

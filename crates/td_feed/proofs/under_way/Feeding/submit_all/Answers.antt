@@ -1,4 +1,4 @@
-use Rattle.std.proofs.Common.{◌≡◌, refl, sym, ap, ◌∙◌, subst}
+use Rattle.std.proofs.Common.{◌≡◌, sym, ap, ◌∙◌, subst}
 use Rattle.std.specs.Prelude.{ℕ, ◌+◌}
 use Rattle.td_store.specs.standing.Standing.{last_epoch}
 use Rattle.td_keeper.specs.Keeping.{Keeping}

@@ -1,4 +1,4 @@
-use Rattle.std.proofs.Common.{◌≡◌, refl, sym, ap, ◌∙◌, subst}
+use Rattle.std.proofs.Common.{◌≡◌, sym, ap, ◌∙◌, subst}
 use Rattle.std.proofs.lemmas.Result.{on_ok_weaker}
 use Rattle.td_keeper.specs.declared.command.Command.TheVariants.{WriteCut}
 use Rattle.td_keeper.specs.declared.command.Reply.{Reply}
