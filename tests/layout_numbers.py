@@ -37,7 +37,7 @@ LIMIT = "the limit of a shape, as a premise of a call"
 WHERE = "a clause says where bytes are, by their number"
 # the number of a layout's part reckoned anew;
 ANEW = "reckoned anew, where td_head has no call that answers it"
-# where a field of a payload begins: another number of this value, but for one of the two in td_slots/src/parse.rt;
+# where a field of a payload begins: another number of this value, but for one of the two in td_slots/src/payload.rt;
 FIELD = "the place of a field of a payload"
 # what td_gate says by a constant of its own, in a clause, where a constant cannot stand;
 GATE = "an open gate, in a clause or a definition"
@@ -53,14 +53,12 @@ PLACES = {
         "td_store/src/group/cells.rt: 65536, 1",
         "td_journal/specs/Steps.antt: 65536, 2",
         "td_journal/src/journal.rt: 65536, 1",
-        "td_journal/src/parse.rt: 65536, 1",
-        "td_journal/src/payload.rt: 65536, 1",
+        "td_journal/src/payload.rt: 65536, 2",
         "td_slots/src/payload.rt: 1048576, 1",
         "td_slots/specs/Steps.antt: 1048576, 1",
         "td_slots/src/slots.rt: 1048576, 2",
-        "td_store/src/standing/layout.rt: 1048576, 1",
-        "td_store/src/standing/layout.rt: 65536, 2",
-        "td_store/src/standing/parts.rt: 65536, 2",
+        "td_store/src/standing/parts.rt: 1048576, 1",
+        "td_store/src/standing/parts.rt: 65536, 4",
     ],
     WHERE: [
         "td_store/src/copy/epochs.rt: 8258, 3",
@@ -83,7 +81,7 @@ PLACES = {
     FIELD: [
         "td_head/src/head.rt: 24, 1",
         "td_head/specs/Head.antt: 24, 1",
-        "td_slots/src/parse.rt: 24, 2",
+        "td_slots/src/payload.rt: 24, 2",
         "td_slots/specs/Slot.antt: 24, 1",
     ],
     GATE: [

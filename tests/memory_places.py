@@ -59,7 +59,7 @@ PLACES = {
         "td_core/src/deliver.rt send_new: see",
         "td_core/src/deliver.rt come_out: come epoch",
         "td_core/src/deliver.rt keep: wait",
-        "td_core/src/notify.rt raise_and_leave: leave",
+        "td_core/src/deliver.rt raise_and_leave: leave",
         "td_core/src/take.rt take_there: copy",
         "td_core/src/take.rt grouped: KeyedItems::grouped",
         "td_feed/src/copying.rt copied: told",
@@ -86,7 +86,7 @@ PLACES = {
     SUMS: [
         "td_core/src/posting.rt count_each: checked_add",
         "td_core/src/posting.rt count_once: checked_add",
-        "td_core/src/raising.rt raise_one: checked_add u128::from",
+        "td_core/src/posting.rt raise_one: checked_add u128::from",
         "td_progress/src/held.rt come: checked_add",
         "td_shard/src/mailbox.rt reserve: checked_add",
         "td_shard/src/mailbox.rt reserve: checked_add",

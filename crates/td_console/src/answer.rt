@@ -1,13 +1,16 @@
-//! The answer text of a plan and batches, by the plain evaluator.
+//! The answer text of a plan and batches, by the plain evaluator; and writing it.
 ghost use Rattle.std.specs.Prelude.{◌≡◌, ◌++◌, ◌<◌, ◌^◌, IfOk, IfErr, OnOk, None, IsTrue, All};
 ghost use Rattle.std.specs.Prelude.{length, string_bytes, flat_map};
 ghost use Rattle.std.specs.List.{list_all};
+ghost use Rattle.std.specs.Io.KnownBytes.{Appends};
+ghost use Rattle.std.specs.Result.{IsOk};
 ghost use Rattle.td_plan.specs.Blocks.{vertices};
 ghost use Rattle.td_plan.specs.Inputs.{is_input_of};
 ghost use Rattle.td_calls.specs.Fits.{first_lack};
 ghost use Rattle.td_console.specs.Answer.{lines_of_run, output_line};
 
 use crate::faults::Fault;
+use crate::streams::Sink;
 use itoa::Buffer;
 use std::alloc::Global;
 use td_batch::{Evaluator, laws};
@@ -69,4 +72,16 @@ fn print_output(text: &mut String, epoch: u64, output: Output) -> Result<(), Fau
     text.push_str(number.format(output.rec.val))?;
     text.push('\n')?;
     Ok(())
+}
+
+/// Writes a text. Refusal: `Output`, where the writer failed.
+pub fn write_answer<W: Sink>(writer: &mut W, text: &str) -> Result<(), Fault>
+    ensures written { OnOk result (Appends (W.contents writer.old) (W.contents writer.new) text.now) }
+    ensures room { W.HasRoom writer.old (length text.now) → IsOk result }
+    ensures err { IfErr result (λ f. f ≡ Fault.Output) }
+{
+    match writer.write_text(text.as_bytes()) {
+        Ok(()) => Ok(()),
+        Err(_) => Err(Fault::Output),
+    }
 }

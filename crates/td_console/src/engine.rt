@@ -1,8 +1,6 @@
 //! Reads all, computes, writes all.
 ghost use Rattle.std.specs.Prelude.{◌≡◌, ◌≢◌, [], ◌⊎◌, ℕ, IfOk, IfErr, OnOk, IfSome, length, ◌≤◌, ◌<◌, ◌^◌, None, IsTrue, All};
-ghost use Rattle.std.specs.Result.{IsOk};
 ghost use Rattle.std.specs.List.{list_all};
-ghost use Rattle.std.specs.Io.KnownBytes.{Appends};
 ghost use Rattle.td_plan.specs.Blocks.{vertices};
 ghost use Rattle.td_plan.specs.Inputs.{is_input_of};
 ghost use Rattle.td_calls.specs.Fits.{first_lack};
@@ -10,12 +8,11 @@ ghost use Rattle.td_console.specs.Answer.{stored_in, Asks, IsAnswer, WritesAnswe
 ghost use Rattle.td_console.specs.Simulated.{WritesSimulated, LacksRoomSimulated};
 ghost use Rattle.td_console.specs.CodeSteps.{IsOfReading};
 
-use crate::answer::run_text;
+use crate::answer::{run_text, write_answer};
 use crate::faults::Fault;
 use crate::hall::hall_text;
 use crate::question::{Question, asked_by};
-use crate::sink::Sink;
-use crate::source::Source;
+use crate::streams::{Sink, Source};
 use crate::turns::sim_text;
 use std::alloc::Global;
 use std::io::ErrorKind;
@@ -132,18 +129,6 @@ fn read_question<R: Source, L: Law, C: Closures<L>>(
 {
     let input = read_all(alloc, reader)?;
     asked_by::<L, C>(alloc, &input, calls)
-}
-
-/// Writes a text. Refusal: `Output`, where the writer failed.
-pub fn write_answer<W: Sink>(writer: &mut W, text: &str) -> Result<(), Fault>
-    ensures written { OnOk result (Appends (W.contents writer.old) (W.contents writer.new) text.now) }
-    ensures room { W.HasRoom writer.old (length text.now) → IsOk result }
-    ensures err { IfErr result (λ f. f ≡ Fault.Output) }
-{
-    match writer.write_text(text.as_bytes()) {
-        Ok(()) => Ok(()),
-        Err(_) => Err(Fault::Output),
-    }
 }
 
 /// All that a reader gives. It stands apart, since it knows nothing of plans.

@@ -1,17 +1,14 @@
 //! The epochs of the data lines of an input.
 ghost use Rattle.std.specs.Prelude.{◌≡◌, [], ◌⊎◌, ◌+◌, ◌<◌, ◌≤◌, ◌^◌, All, IsTrue, IfOk, IfErr, OnOk, MatchOption};
 ghost use Rattle.std.specs.Prelude.{Some, None, Ok, Err, length};
-ghost use Rattle.std.specs.Bool.{OnTrue};
 ghost use Rattle.std.specs.List.{list_all};
 ghost use Rattle.td_plan.specs.Text.{text_lines};
-ghost use Rattle.td_plan.specs.Faults.{most_vertices};
 ghost use Rattle.td_plan.specs.Inputs.{is_input_of};
 ghost use Rattle.td_console.specs.Data.{data_line_of, batches_of, data_fault};
 ghost use Rattle.td_console.specs.CodeSteps.{IsFirstLine, no_epochs, with_data_line, closed_batches, read_from, IsOfInput};
 
-use crate::data_line::{DataLine, read_data_line};
+use crate::data_line::{DataLine, is_input, plain_record, read_data_line};
 use crate::faults::{Fault, LineFault};
-use crate::plain::plain_record;
 use std::alloc::Global;
 use std::marker::Model;
 use std::mem;
@@ -101,17 +98,6 @@ impl Epochs {
         } else {
             Err(Fault::Line(number, LineFault::NotClosed))
         }
-    }
-}
-
-/// Whether a number is that of an input vertex.
-pub fn is_input(plan: &Plan, number: u32) -> bool
-    ensures exact { result ≡ is_input_of plan.now number }
-    ensures small { OnTrue result (number < most_vertices) }
-{
-    match plan.vertices().get(number as usize) {
-        Some(vertex) => vertex.is_input(),
-        None => false,
     }
 }
 

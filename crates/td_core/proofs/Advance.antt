@@ -21,7 +21,7 @@ use Rattle.td_shard.specs.declared.shard.Shard.{Shard}
 use Rattle.td_task.specs.Refusals.{refusal}
 use Rattle.td_task.specs.declared.error.TaskError.{TaskError}
 use Rattle.td_task.specs.declared.error.TaskError.TheVariants as task_errors
-use Rattle.td_core.specs.declared.floor.Floor.{Floor}
+use Rattle.td_core.specs.declared.hall.Floor.{Floor}
 use Rattle.td_core.specs.declared.drain.Drained.{Drained}
 use Rattle.td_core.specs.declared.error.HallError.{HallError}
 use Rattle.td_core.specs.Floor.{state_of, in_mailboxes, with_tasks, IsHall}

@@ -9,7 +9,7 @@ use Rattle.td_machine.specs.Active.{active, stamp_of_message, stamp_of_asked, st
 use Rattle.td_machine.specs.Steps.{close_step}
 use Rattle.td_machine.specs.Steps.Event.{close}
 use Rattle.td_machine.specs.Steps.Answer.{has_closed}
-use Rattle.td_core.specs.declared.floor.Floor.{Floor}
+use Rattle.td_core.specs.declared.hall.Floor.{Floor}
 use Rattle.td_core.specs.Floor.{state_of, IsHall}
 use Rattle.td_core.specs.Sites.{IsSites}
 use Rattle.td_core.proofs.CollectSteps.{ReachedByStep}

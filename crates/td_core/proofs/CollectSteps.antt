@@ -12,7 +12,7 @@ use Rattle.td_machine.specs.Steps.{Event, Answer, Step, collect_step, collected_
 use Rattle.td_machine.specs.Steps.Event.{collect}
 use Rattle.td_machine.specs.Steps.Answer.{has_collected}
 use Rattle.td_machine.specs.Reached.{IsReached}
-use Rattle.td_core.specs.declared.floor.Floor.{Floor}
+use Rattle.td_core.specs.declared.hall.Floor.{Floor}
 use Rattle.td_core.specs.declared.error.HallError.{HallError}
 use Rattle.td_core.specs.Floor.{state_of, IsHall}
 use Rattle.td_core.specs.Came.{out_of, passed_since}

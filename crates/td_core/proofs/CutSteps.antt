@@ -7,7 +7,7 @@ use Rattle.td_machine.specs.Active as machine
 use Rattle.td_machine.specs.Steps.{Event, Answer, Step, cut_by, cut_at_by, cut_to}
 use Rattle.td_machine.specs.Steps.Answer.{has_cut, refused}
 use Rattle.td_machine.specs.Steps.Refusal.{not_passed}
-use Rattle.td_core.specs.declared.floor.Floor.{Floor}
+use Rattle.td_core.specs.declared.hall.Floor.{Floor}
 use Rattle.td_core.specs.declared.cut.Cut.{Cut}
 use Rattle.td_core.specs.declared.error.HallError.{HallError}
 use Rattle.td_core.specs.declared.error.HallError.TheVariants.{Memory}

@@ -31,7 +31,7 @@ use Rattle.td_machine.specs.ByEdge.{OutputsAtOnce, AsksOnce}
 use Rattle.td_machine.specs.InOrder.{TasksInOrder, NumbersInOrder, StillThere}
 use Rattle.td_machine.specs.Moves.{StampsMove, Moves, come_given, gone_given, stamps_of}
 use Rattle.td_machine.specs.Reached.{IsReached}
-use Rattle.td_core.specs.declared.floor.Floor.{Floor}
+use Rattle.td_core.specs.declared.hall.Floor.{Floor}
 use Rattle.td_core.specs.Floor.{state_of, IsHall, taken_up, with_tasks, in_mailboxes, waiting_in, asked_in}
 use Rattle.td_core.specs.Sites.{IsSites}
 use Rattle.td_core.specs.Posted.{waits}

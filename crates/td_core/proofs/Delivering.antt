@@ -27,7 +27,7 @@ use Rattle.td_machine.specs.Sends.{TasksOfPlan, TurnsOfPlan, CanTurn}
 use Rattle.td_machine.specs.Moves.{come_given, newly_asked, stamps_of}
 use Rattle.td_shard.specs.Asked.{AskedList, items_at, with_items}
 use Rattle.td_shard.specs.declared.shard.Shard.{Shard}
-use Rattle.td_core.specs.declared.floor.Floor.{Floor}
+use Rattle.td_core.specs.declared.hall.Floor.{Floor}
 use Rattle.td_core.specs.Floor.{state_of, IsHall, asked_in, asked_of_shard}
 use Rattle.td_core.specs.Posted.{mails_with, waits}
 use Rattle.td_core.specs.Delivered.{IsDelivered, IsSent, IsNoted, CanSend, added_by, waiting_with, waiting_at_shard, asked_now}

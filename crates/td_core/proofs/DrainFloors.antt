@@ -11,7 +11,7 @@ use Rattle.td_machine.specs.Steps.Gives.{gives, is_stranger}
 use Rattle.td_machine.specs.Tally.{records_in, notes_in}
 use Rattle.td_machine.specs.InOrder.{NumbersInOrder}
 use Rattle.td_machine.specs.Reached.{IsReached}
-use Rattle.td_core.specs.declared.floor.Floor.{Floor}
+use Rattle.td_core.specs.declared.hall.Floor.{Floor}
 use Rattle.td_core.specs.declared.drain.Drained.{Drained}
 use Rattle.td_core.specs.Floor.{state_of, IsHall}
 use Rattle.td_core.specs.Drained.{Works, IsKept, IsTurn, IsTurnIf, IsIdle, IsFurther}

@@ -22,7 +22,7 @@ use Rattle.td_shard.specs.Asked.{items_at}
 use Rattle.td_shard.specs.Messages.{IsBeside, task_at, left_at}
 use Rattle.td_shard.specs.ProvedOrders.{time_total}
 use Rattle.td_core.specs.declared.error.HallError.{HallError}
-use Rattle.td_core.specs.declared.floor.Floor.{Floor}
+use Rattle.td_core.specs.declared.hall.Floor.{Floor}
 use Rattle.td_core.specs.declared.take.Candidate.{Candidate}
 use Rattle.td_core.specs.declared.take.Candidate.TheVariants as candidates
 use Rattle.td_core.specs.Floor.{state_of, IsHall, empty_shard, in_mailboxes, with_tasks}

@@ -12,7 +12,7 @@ use Rattle.td_machine.specs.Steps.Answer.{has_given, refused}
 use Rattle.td_machine.specs.Steps.Gives.{gives, is_stranger}
 use Rattle.td_machine.specs.Steps.Refusal.{stranger}
 use Rattle.td_core.specs.declared.error.HallError.{HallError}
-use Rattle.td_core.specs.declared.floor.Floor.{Floor}
+use Rattle.td_core.specs.declared.hall.Floor.{Floor}
 use Rattle.td_core.specs.Floor.{state_of, IsHall}
 use Rattle.td_core.specs.Given.{IsAnswered, IsEnded, IsUntouched}
 use Rattle.td_core.specs.Sites.{IsSites}

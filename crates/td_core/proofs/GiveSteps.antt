@@ -25,12 +25,12 @@ use Rattle.td_machine.specs.Steps.Answer.{has_given}
 use Rattle.td_machine.specs.Steps.Gives.{gives}
 use Rattle.td_machine.specs.Reached.{IsReached}
 use Rattle.td_shard.specs.declared.shard.Shard.{Shard}
-use Rattle.td_core.specs.declared.floor.Floor.{Floor}
+use Rattle.td_core.specs.declared.hall.Floor.{Floor}
 use Rattle.td_core.specs.Floor.{state_of, IsHall, IsShard, in_mailboxes, with_tasks}
 use Rattle.td_core.specs.Given.{IsUntouched, took}
 use Rattle.td_core.specs.Posted.{of_shard, mails, mails_with}
 use Rattle.td_core.specs.Sites.{IsSites, edge_in}
-use Rattle.td_core.specs.declared.sites.Sites.{Sites}
+use Rattle.td_core.specs.declared.hall.Sites.{Sites}
 use Rattle.td_core.proofs.CollectSteps.{ReachedByStep}
 use Rattle.td_core.proofs.CloseSteps.{CountsAppend}
 use Rattle.td_core.proofs.OutTasks.{of_one, same_number, is_itself}

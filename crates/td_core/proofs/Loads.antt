@@ -8,7 +8,7 @@ use Rattle.td_machine.specs.declared.records.Message.{Message}
 use Rattle.td_shard.specs.declared.shard.Shard.{Shard}
 use Rattle.td_core.specs.declared.release.Load.{Load}
 use Rattle.td_shard.specs.declared.outlet.Outlet.{Outlet}
-use Rattle.td_core.specs.declared.sites.Sites.{Sites}
+use Rattle.td_core.specs.declared.hall.Sites.{Sites}
 use Rattle.td_core.specs.Posted.{count_of, runs_of, HaveRoom, HaveRoomFor, IsPosted}
 use Rattle.td_shard.specs.Messages.{on_each}
 use Rattle.td_core.specs.Released.{HaveRoomForLoads, load_of, messages_in, runs_in, messages_of, start_of}

@@ -9,7 +9,7 @@ use Rattle.td_machine.specs.State.{HallState}
 use Rattle.td_machine.specs.Active.{has_passed, unpassed}
 use Rattle.td_machine.specs.Sound.{Sound, run_states}
 use Rattle.td_machine.specs.Steps.{to_collect}
-use Rattle.td_core.specs.declared.floor.Floor.{Floor}
+use Rattle.td_core.specs.declared.hall.Floor.{Floor}
 use Rattle.td_core.specs.declared.cut.Cut.{Cut}
 use Rattle.td_core.specs.declared.error.HallError.{HallError}
 use Rattle.td_core.specs.Floor.{state_of, IsHall}

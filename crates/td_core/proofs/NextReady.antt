@@ -14,7 +14,7 @@ use Rattle.td_reach.specs.declared.stamp.Place.TheVariants as places
 use Rattle.td_reach.specs.declared.stamp.Stamp.{Stamp}
 use Rattle.td_reach.specs.Frontier.{Frontier}
 use Rattle.td_progress.specs.Bag.{Active, is_stamp}
-use Rattle.td_shard.specs.declared.noted.Noted.{Noted}
+use Rattle.td_shard.specs.declared.waiting.Noted.{Noted}
 use Rattle.td_shard.specs.Asked.{AskedList, noted_cmp, noted_at, items_at}
 use Rattle.td_shard.specs.ProvedOrders.{noted_total}
 use Rattle.td_core.specs.Taking.{IsReady, AreReady, IsReadyAt, IsNextReady, stamp_of_noted, asked_of, comes_after, comes_before, earlier}

@@ -9,7 +9,7 @@ use Rattle.td_machine.specs.State.Content.{notification}
 use Rattle.td_machine.specs.InOrder.{OneAShard}
 use Rattle.td_machine.specs.Moves.{come_given, gone_given}
 use Rattle.td_machine.specs.Steps.{effect, is_given, posts, stamped, notified_sends}
-use Rattle.td_core.specs.declared.floor.Floor.{Floor}
+use Rattle.td_core.specs.declared.hall.Floor.{Floor}
 use Rattle.td_core.specs.Floor.{state_of, IsHall, IsShard}
 use Rattle.td_core.specs.Given.{IsNotified, IsEnded}
 use Rattle.td_core.proofs.DeliverSteps.{DeliverLaws}

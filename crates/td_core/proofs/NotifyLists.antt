@@ -17,7 +17,7 @@ use Rattle.td_stamp.specs.declared.values.Arrival.{Arrival}
 use Rattle.td_stamp.specs.Time.{Timestamp, time_cmp}
 use Rattle.td_machine.specs.State.{HallState, notification_cmp, is_there}
 use Rattle.td_machine.specs.Steps.{asked_at}
-use Rattle.td_shard.specs.declared.noted.Noted.{Noted}
+use Rattle.td_shard.specs.declared.waiting.Noted.{Noted}
 use Rattle.td_shard.specs.Asked.{AskedList, noted_cmp, noted_at}
 use Rattle.td_shard.specs.ProvedOrders.{time_total, noted_equiv}
 use Rattle.td_core.specs.Floor.{asked_of_shard}

@@ -18,11 +18,11 @@ use Rattle.td_machine.specs.Active.{kind_of, bound_of}
 use Rattle.td_machine.specs.ByEdge.{StampsByEdge, stamps_by_edge, times_from}
 use Rattle.td_machine.specs.Moves.{stamps_of, come_given}
 use Rattle.td_machine.specs.Steps.{sending_times, posts, stamped, notified_sends}
-use Rattle.td_core.specs.declared.floor.Floor.{Floor}
+use Rattle.td_core.specs.declared.hall.Floor.{Floor}
 use Rattle.td_core.specs.Floor.{state_of}
-use Rattle.td_core.specs.declared.raising.Rise.{Rise}
+use Rattle.td_core.specs.declared.posting.Rise.{Rise}
 use Rattle.td_shard.specs.declared.outlet.Outlet.{Outlet}
-use Rattle.td_core.specs.declared.sites.Sites.{Sites}
+use Rattle.td_core.specs.declared.hall.Sites.{Sites}
 use Rattle.td_core.specs.Sites.{IsSites}
 use Rattle.td_core.specs.Posted.{stamp_on_outlet, stamps_on}
 use Rattle.td_shard.specs.Messages.{on_each}

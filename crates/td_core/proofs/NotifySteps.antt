@@ -18,10 +18,10 @@ use Rattle.td_machine.specs.State.Content.{notification}
 use Rattle.td_machine.specs.InOrder.{OneAShard}
 use Rattle.td_machine.specs.Steps.{effect, is_given, asked_at, is_for, waiting, posts, stamped, leaves, notified_sends}
 use Rattle.td_machine.specs.Waits.{WaitsByPlace, AskedPassing}
-use Rattle.td_shard.specs.declared.noted.Noted.{Noted}
+use Rattle.td_shard.specs.declared.waiting.Noted.{Noted}
 use Rattle.td_shard.specs.declared.shard.Shard.{Shard}
 use Rattle.td_shard.specs.Asked.{AskedList, noted_cmp, noted_at, without_items}
-use Rattle.td_core.specs.declared.floor.Floor.{Floor}
+use Rattle.td_core.specs.declared.hall.Floor.{Floor}
 use Rattle.td_core.specs.Floor.{state_of, in_mailboxes, taken_up, with_tasks, waiting_at, waiting_in, asked_of_shard, asked_in}
 use Rattle.td_core.specs.Posted.{waits}
 use Rattle.td_core.specs.Given.{IsNotified, IsEnded, waiting_without}

@@ -13,7 +13,7 @@ use Rattle.td_machine.specs.State.{message_cmp, notification_cmp}
 use Rattle.td_machine.specs.Active.{active, inputs_of}
 use Rattle.td_machine.specs.Steps.{opened, ends}
 use Rattle.td_machine.specs.Reached.{IsReached}
-use Rattle.td_core.specs.declared.floor.Floor.{Floor}
+use Rattle.td_core.specs.declared.hall.Floor.{Floor}
 use Rattle.td_core.specs.Sites.{IsSites}
 use Rattle.td_core.specs.Floor.{state_of, IsHall, IsShard, empty_shard, in_mailboxes, with_tasks, waiting_in, asked_in}
 

@@ -21,12 +21,12 @@ use Rattle.td_machine.specs.InOrder.{ListsInOrder, TasksInOrder, NumbersInOrder}
 use Rattle.td_machine.specs.State.{HallState, Task, message_cmp, notification_cmp, shard_of_key, is_out}
 use Rattle.td_machine.specs.Steps.{is_asked}
 use Rattle.td_progress.specs.Bag.{Active}
-use Rattle.td_shard.specs.declared.noted.Noted.{Noted}
+use Rattle.td_shard.specs.declared.waiting.Noted.{Noted}
 use Rattle.td_shard.specs.declared.shard.Shard.{Shard}
 use Rattle.td_shard.specs.Asked.{AskedList, noted_cmp, noted_at, items_at}
 use Rattle.td_shard.specs.ProvedOrders.{noted_total}
 use Rattle.td_core.specs.declared.error.HallError.{HallError}
-use Rattle.td_core.specs.declared.floor.Floor.{Floor}
+use Rattle.td_core.specs.declared.hall.Floor.{Floor}
 use Rattle.td_core.specs.declared.take.Candidate.{Candidate}
 use Rattle.td_core.specs.declared.take.Candidate.TheVariants as candidates
 use Rattle.td_core.specs.Floor.{state_of, IsHall, empty_shard, in_mailboxes, with_tasks}

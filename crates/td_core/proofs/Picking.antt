@@ -2,7 +2,7 @@
 use Rattle.std.proofs.Common.{◌≡◌, inl, inr, ℕ, ◌+◌, ◌-◌, ◌<◌, List, [], ◌∷◌, ◌++◌, length, Some, None, refl, sym, ap, ◌∙◌, subst, arith}
 use Rattle.std.proofs.lemmas.Nat.{mod_below}
 use Rattle.td_progress.specs.Bag.{Active}
-use Rattle.td_shard.specs.declared.noted.Noted.{Noted}
+use Rattle.td_shard.specs.declared.waiting.Noted.{Noted}
 use Rattle.td_shard.specs.declared.shard.Shard.{Shard}
 use Rattle.td_core.specs.declared.take.Candidate.{Candidate}
 use Rattle.td_core.specs.declared.take.Candidate.TheVariants as candidates

@@ -24,9 +24,9 @@ use Rattle.td_machine.specs.Steps.{accepts, entered, posts, stamped, on_edge, ed
 use Rattle.td_machine.specs.Moves.{stamps_of}
 use Rattle.td_machine.specs.ByEdge.{stamp_on, stamps_by_edge, StampsByEdge}
 use Rattle.td_machine.specs.Sends.{SentOfPlan}
-use Rattle.td_core.specs.declared.raising.Rise.{Rise}
+use Rattle.td_core.specs.declared.posting.Rise.{Rise}
 use Rattle.td_shard.specs.declared.outlet.Outlet.{Outlet}
-use Rattle.td_core.specs.declared.sites.Sites.{Sites}
+use Rattle.td_core.specs.declared.hall.Sites.{Sites}
 use Rattle.td_core.specs.Posted.{stamp_on_outlet, risen}
 use Rattle.td_shard.specs.Messages.{on_outlet, on_each}
 use Rattle.td_core.specs.Released.{loads_in, messages_of, rises_of, start_of}

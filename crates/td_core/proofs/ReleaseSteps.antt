@@ -26,7 +26,7 @@ use Rattle.td_machine.specs.Moves.{stamps_of, come_released, StampsMove}
 use Rattle.td_machine.specs.ByEdge.{StampsByEdge}
 use Rattle.td_machine.specs.Reached.{IsReached}
 use Rattle.td_machine.specs.Sends.{SentOfPlan, ComeOfPlan}
-use Rattle.td_core.specs.declared.floor.Floor.{Floor}
+use Rattle.td_core.specs.declared.hall.Floor.{Floor}
 use Rattle.td_core.specs.Floor.{state_of, IsHall, with_tasks}
 use Rattle.td_core.specs.Posted.{risen}
 use Rattle.td_core.specs.Released.{loads_in, messages_of, rises_of, IsIn, IsAsBefore}

@@ -6,7 +6,7 @@ use Rattle.std.proofs.lemmas.List.{take_more, take-append-drop}
 use Rattle.td_stamp.specs.Time.{Timestamp}
 use Rattle.td_reach.specs.declared.stamp.Stamp.{Stamp}
 use Rattle.td_progress.specs.Bag.{is_stamp, occurrences, IsSameBag}
-use Rattle.td_core.specs.declared.raising.Rise.{Rise}
+use Rattle.td_core.specs.declared.posting.Rise.{Rise}
 use Rattle.td_shard.specs.declared.outlet.Outlet.{Outlet}
 use Rattle.td_core.specs.Posted.{risen, stamps_on, stamp_on_outlet}
 use Rattle.td_core.proofs.CloseSteps.{CountsAppend}

@@ -17,9 +17,9 @@ use Rattle.td_machine.specs.Steps.{posts, posted, stamped, sending_times, edges_
 use Rattle.td_machine.specs.AtOnce.{fresh, stamped_at}
 use Rattle.td_machine.specs.ByEdge.{times_from, stamps_by_edge, stamp_on}
 use Rattle.td_shard.specs.declared.shard.Shard.{Shard}
-use Rattle.td_core.specs.declared.floor.Floor.{Floor}
+use Rattle.td_core.specs.declared.hall.Floor.{Floor}
 use Rattle.td_shard.specs.declared.outlet.Outlet.{Outlet}
-use Rattle.td_core.specs.declared.sites.Sites.{Sites}
+use Rattle.td_core.specs.declared.hall.Sites.{Sites}
 use Rattle.td_core.specs.Sites.{IsSites, outlet_of, outlets_of, kind_in, bound_in}
 use Rattle.td_core.specs.Posted.{stamp_on_outlet, stamps_on, mails_with, IsPosted, IsRoomier, HaveRoom, count_of, runs_of}
 use Rattle.td_shard.specs.Messages.{on_each, on_outlet}
@@ -27,7 +27,7 @@ use Rattle.td_core.specs.Given.{IsUntouched}
 use Rattle.td_core.specs.Delivered.{IsSent}
 use Rattle.td_core.proofs.CloseSteps.{CountsAppend}
 use Rattle.td_core.proofs.PostingSteps.{roomier_then_posted, none_posted as none_posts}
-use Rattle.td_core.specs.declared.raising.Rise.{Rise}
+use Rattle.td_core.specs.declared.posting.Rise.{Rise}
 use Rattle.td_core.proofs.Rises.{rise_on}
 use Rattle.td_core.proofs.PostRuns.{room_weaker}
 

@@ -34,11 +34,11 @@ use Rattle.td_machine.specs.State.Content.{messages, notification}
 use Rattle.td_machine.specs.Steps.{asked_at, is_asked, is_for, waiting, coming, IsContent, MayTake}
 use Rattle.td_machine.specs.Waits.{WaitsByPlace}
 use Rattle.td_progress.specs.Bag.{Active}
-use Rattle.td_shard.specs.declared.noted.Noted.{Noted}
+use Rattle.td_shard.specs.declared.waiting.Noted.{Noted}
 use Rattle.td_shard.specs.declared.shard.Shard.{Shard}
 use Rattle.td_shard.specs.Asked.{AskedList, noted_cmp, noted_at, items_at}
 use Rattle.td_shard.specs.ProvedOrders.{noted_total}
-use Rattle.td_core.specs.declared.floor.Floor.{Floor}
+use Rattle.td_core.specs.declared.hall.Floor.{Floor}
 use Rattle.td_core.specs.Floor.{state_of, IsHall, IsShard, empty_shard, in_mailboxes, with_tasks, taken_up, waiting_at, asked_in, asked_of_shard}
 use Rattle.td_core.specs.Posted.{mails}
 use Rattle.td_core.specs.Taking.{AreAsked, IsReady, AreReady, IsPicked, changed_at, stamp_of_noted}

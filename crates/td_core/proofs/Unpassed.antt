@@ -5,7 +5,7 @@ use Rattle.td_reach.specs.Frontier.{has_passed}
 use Rattle.td_progress.specs.Bag.{IsSameBag}
 use Rattle.td_machine.specs.State.{HallState}
 use Rattle.td_machine.specs.Active.{active, unpassed}
-use Rattle.td_core.specs.declared.floor.Floor.{Floor}
+use Rattle.td_core.specs.declared.hall.Floor.{Floor}
 use Rattle.td_core.specs.Floor.{state_of}
 use Rattle.td_core.specs.Came.{next_below}
 use Rattle.td_core.proofs.CollectSteps.{PassedAlike}

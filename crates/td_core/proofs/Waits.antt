@@ -15,7 +15,7 @@ use Rattle.td_stamp.specs.Time.{time_cmp}
 use Rattle.td_machine.specs.declared.records.Message.{Message}
 use Rattle.td_machine.specs.State.{message_cmp}
 use Rattle.td_machine.specs.Steps.{waiting}
-use Rattle.td_shard.specs.declared.noted.Noted.{Noted}
+use Rattle.td_shard.specs.declared.waiting.Noted.{Noted}
 use Rattle.td_shard.specs.Asked.{AskedList, noted_cmp, with_items, with_items_by}
 use Rattle.td_core.specs.Floor.{waiting_at}
 

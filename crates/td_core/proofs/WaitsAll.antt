@@ -15,7 +15,7 @@ use Rattle.td_calls.specs.Callbacks.{is_notified}
 use Rattle.td_machine.specs.declared.records.Message.{Message}
 use Rattle.td_machine.specs.declared.records.Notification.{Notification}
 use Rattle.td_machine.specs.State.{Task, message_cmp, notification_cmp, shard_of_key}
-use Rattle.td_shard.specs.declared.noted.Noted.{Noted}
+use Rattle.td_shard.specs.declared.waiting.Noted.{Noted}
 use Rattle.td_shard.specs.declared.shard.Shard.{Shard}
 use Rattle.td_shard.specs.Asked.{AskedList, noted_cmp, noted_at, with_items}
 use Rattle.td_core.specs.Floor.{waiting_in, asked_in, asked_of_shard}

@@ -9,7 +9,7 @@ use Rattle.std.specs.BTreeMap.{is_at, insert_entry}
 use Rattle.std.specs.Ordering.{match_ordering, ordering_reverse}
 use Rattle.std.proofs.lemmas.Map.{keys-set_value}
 use Rattle.td_stamp.specs.declared.values.Arrival.{Arrival}
-use Rattle.td_shard.specs.declared.noted.Noted.{Noted}
+use Rattle.td_shard.specs.declared.waiting.Noted.{Noted}
 use Rattle.td_shard.specs.Asked.{AskedList, noted_cmp, with_items, with_items_by}
 use Rattle.td_shard.specs.ProvedOrders.{noted_total}
 

@@ -1,6 +1,6 @@
 -- A hall when what has passed was collected.
 use Rattle.std.specs.Prelude.{ℕ, ◌+◌, length}
-use Rattle.td_core.specs.declared.floor.Floor.{Floor}
+use Rattle.td_core.specs.declared.hall.Floor.{Floor}
 use Rattle.td_core.specs.Came.{passed_since, later_than}
 
 -- the last epoch that has passed

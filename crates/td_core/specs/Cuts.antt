@@ -2,7 +2,7 @@
 use Rattle.std.specs.Prelude.{◌≡◌, ℕ, ◌-◌, nat_le, nat_lt, drop, filter}
 use Rattle.td_stamp.specs.States.{StateList}
 use Rattle.td_machine.specs.State.{with_left}
-use Rattle.td_core.specs.declared.floor.Floor.{Floor}
+use Rattle.td_core.specs.declared.hall.Floor.{Floor}
 
 -- the states after an epoch: those of the base, and what folds left up to it
 abbrev pub states_after : Floor → ℕ → StateList

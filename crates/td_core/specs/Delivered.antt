@@ -23,7 +23,7 @@ use Rattle.td_machine.specs.ByEdge.{comes_out_at_once, stamps_by_edge}
 use Rattle.td_machine.specs.Moves.{come_given}
 use Rattle.td_shard.specs.Asked.{AskedList, items_at, with_items}
 use Rattle.td_shard.specs.declared.shard.Shard.{Shard}
-use Rattle.td_core.specs.declared.floor.Floor.{Floor}
+use Rattle.td_core.specs.declared.hall.Floor.{Floor}
 use Rattle.td_core.specs.Came.{output_at}
 use Rattle.td_core.specs.Floor.{state_of}
 use Rattle.td_core.specs.Sites.{IsSites}

@@ -15,7 +15,7 @@ use Rattle.td_machine.specs.Tally.{records_in, notes_in, tally}
 use Rattle.td_machine.specs.Work.{Records, Notes}
 use Rattle.td_core.specs.declared.error.HallError.{HallError}
 use Rattle.td_core.specs.declared.error.HallError.TheVariants.{Memory, Spent}
-use Rattle.td_core.specs.declared.floor.Floor.{Floor}
+use Rattle.td_core.specs.declared.hall.Floor.{Floor}
 use Rattle.td_core.specs.declared.drain.Drained.{Drained}
 use Rattle.td_core.specs.Floor.{state_of, IsHall}
 

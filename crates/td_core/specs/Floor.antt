@@ -16,10 +16,10 @@ use Rattle.td_machine.specs.State.Content.{messages, notification}
 use Rattle.td_machine.specs.Active.{active, inputs_of}
 use Rattle.td_machine.specs.Steps.{coming, waiting, ends}
 use Rattle.td_machine.specs.Reached.{IsReached}
-use Rattle.td_shard.specs.declared.noted.Noted.{Noted}
+use Rattle.td_shard.specs.declared.waiting.Noted.{Noted}
 use Rattle.td_shard.specs.Asked.{noted_cmp}
 use Rattle.td_shard.specs.declared.shard.Shard.{Shard}
-use Rattle.td_core.specs.declared.floor.Floor.{Floor}
+use Rattle.td_core.specs.declared.hall.Floor.{Floor}
 use Rattle.td_core.specs.Sites.{IsSites}
 
 -- the messages that a task took up

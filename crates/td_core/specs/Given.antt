@@ -13,10 +13,10 @@ use Rattle.td_machine.specs.Steps.{posts, stamped, leaves, notified_sends}
 use Rattle.td_machine.specs.Moves.{come_given, gone_given}
 use Rattle.td_shard.specs.Asked.{AskedList, without_items}
 use Rattle.td_shard.specs.declared.shard.Shard.{Shard}
-use Rattle.td_core.specs.declared.floor.Floor.{Floor}
-use Rattle.td_core.specs.declared.raising.Rise.{Rise}
+use Rattle.td_core.specs.declared.hall.Floor.{Floor}
+use Rattle.td_core.specs.declared.posting.Rise.{Rise}
 use Rattle.td_shard.specs.declared.outlet.Outlet.{Outlet}
-use Rattle.td_core.specs.declared.sites.Sites.{Sites}
+use Rattle.td_core.specs.declared.hall.Sites.{Sites}
 use Rattle.td_core.specs.Floor.{state_of}
 use Rattle.td_core.specs.Delivered.{IsDelivered}
 use Rattle.td_core.specs.Posted.{IsRoomier, mails, mails_with, waits}

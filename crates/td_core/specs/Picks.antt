@@ -10,7 +10,7 @@ use Rattle.td_machine.specs.State.{HallState, Task, Content, shard_of_key, is_th
 use Rattle.td_machine.specs.State.Content.{messages, notification}
 use Rattle.td_machine.specs.Active.{Frontier, stamp_at}
 use Rattle.td_machine.specs.Steps.{is_asked, task_size}
-use Rattle.td_shard.specs.declared.noted.Noted.{Noted}
+use Rattle.td_shard.specs.declared.waiting.Noted.{Noted}
 use Rattle.td_shard.specs.Asked.{noted_cmp, noted_at}
 
 -- what a task has to do, of so many messages and, after them, these notifications: a message, or the notification at a place

@@ -10,7 +10,7 @@ use Rattle.td_machine.specs.State.{shard_of_key}
 use Rattle.td_shard.specs.Asked.{AskedList}
 use Rattle.td_shard.specs.declared.shard.Shard.{Shard}
 use Rattle.td_shard.specs.declared.outlet.Outlet.{Outlet}
-use Rattle.td_core.specs.declared.raising.Rise.{Rise}
+use Rattle.td_core.specs.declared.posting.Rise.{Rise}
 
 -- the messages of a shard
 abbrev pub of_shard : ℕ → ℕ → List Message → List Message

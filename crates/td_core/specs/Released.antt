@@ -10,10 +10,10 @@ use Rattle.td_machine.specs.declared.records.Message.{Message}
 use Rattle.td_machine.specs.Steps.{posts, entered}
 use Rattle.td_machine.specs.Moves.{come_released}
 use Rattle.td_shard.specs.declared.shard.Shard.{Shard}
-use Rattle.td_core.specs.declared.floor.Floor.{Floor}
-use Rattle.td_core.specs.declared.raising.Rise.{Rise}
+use Rattle.td_core.specs.declared.hall.Floor.{Floor}
+use Rattle.td_core.specs.declared.posting.Rise.{Rise}
 use Rattle.td_core.specs.declared.release.Load.{Load}
-use Rattle.td_core.specs.declared.sites.Sites.{Sites}
+use Rattle.td_core.specs.declared.hall.Sites.{Sites}
 use Rattle.td_core.specs.Floor.{state_of}
 use Rattle.td_core.specs.Posted.{IsPosted, IsRoomier, HaveRoomFor, count_of, runs_of, stamp_on_outlet}
 use Rattle.td_shard.specs.Messages.{on_each}

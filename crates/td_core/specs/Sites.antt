@@ -9,8 +9,8 @@ use Rattle.td_machine.specs.Active.{kind_or, kind_of, bound_of}
 use Rattle.td_machine.specs.Steps.{edges_from}
 use Rattle.td_shard.specs.declared.outlet.Outlet.{Outlet}
 use Rattle.td_shard.specs.Messages.{AreApart}
-use Rattle.td_core.specs.declared.sites.Site.{Site}
-use Rattle.td_core.specs.declared.sites.Sites.{Sites}
+use Rattle.td_core.specs.declared.hall.Site.{Site}
+use Rattle.td_core.specs.declared.hall.Sites.{Sites}
 
 -- an edge, with its number
 abbrev pub outlet_of : List Line → Edge → Outlet

@@ -23,11 +23,11 @@ use Rattle.td_machine.specs.Active.{kind_of, stamp_at}
 use Rattle.td_machine.specs.Steps.{Refusal, Takes, coming, with_state_of, task_size, ends}
 use Rattle.td_machine.specs.Steps.Answer.{has_taken, refused}
 use Rattle.td_machine.specs.Reached.{IsReached}
-use Rattle.td_shard.specs.declared.noted.Noted.{Noted}
+use Rattle.td_shard.specs.declared.waiting.Noted.{Noted}
 use Rattle.td_shard.specs.declared.shard.Shard.{Shard}
 use Rattle.td_shard.specs.Asked.{AskedList, items_at, noted_at, noted_cmp}
 use Rattle.td_shard.specs.Messages.{task_at, left_at}
-use Rattle.td_core.specs.declared.floor.Floor.{Floor}
+use Rattle.td_core.specs.declared.hall.Floor.{Floor}
 use Rattle.td_core.specs.declared.error.HallError.{HallError}
 use Rattle.td_core.specs.declared.error.HallError.TheVariants.{Memory, Spent}
 use Rattle.td_core.specs.declared.take.Candidate.{Candidate}

@@ -9,8 +9,7 @@ ghost use Rattle.td_core.specs.Refusals.{IsRefused};
 ghost use Rattle.td_core.specs.declared.error.HallError.TheVariants.{Memory};
 
 use crate::error::HallError;
-use crate::floor::Floor;
-use crate::hall::Hall;
+use crate::hall::{Floor, Hall};
 use std::collections::VecDeque;
 use td_calls::Law;
 use td_machine::laws::{base_has_passed, reached, reached_in_order};

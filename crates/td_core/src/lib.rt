@@ -12,24 +12,15 @@
 //! With one shard, `release`, `drain` and `collect` in turn run a plan epoch by epoch, as `td run` does.
 #![tactic(auto)]
 
-mod close;
 mod collect;
 mod cut;
 mod deliver;
 mod drain;
 mod error;
-mod floor;
-mod give;
 mod hall;
 pub mod laws;
-mod notify;
-mod open;
-mod outputs;
-mod passed;
 mod posting;
-mod raising;
 mod release;
-mod sites;
 mod states;
 mod take;
 

@@ -1,9 +1,9 @@
-//! Releasing a batch into the inputs.
+//! Releasing a batch into the inputs, and closing these.
 ghost use Rattle.std.specs.Prelude.{◌≡◌, ◌+◌, ◌^◌, ◌<◌, ◌≤◌, ◌++◌, false, true, ℕ, map, flat_map, length, IfOk, IfErr, OnOk, OnErr};
 ghost use Rattle.td_stamp.specs.Batch.{records_for};
-ghost use Rattle.td_progress.specs.Bag.{input_stamp};
-ghost use Rattle.td_machine.specs.Steps.{accepts, ends, release_step};
-ghost use Rattle.td_machine.specs.Steps.Answer.{has_released};
+ghost use Rattle.td_progress.specs.Bag.{input_stamp, IsSameBag, occurrences};
+ghost use Rattle.td_machine.specs.Steps.{accepts, ends, release_step, close_step};
+ghost use Rattle.td_machine.specs.Steps.Answer.{has_released, has_closed};
 ghost use Rattle.td_core.specs.Floor.{IsHall};
 ghost use Rattle.td_core.specs.Posted.{IsPosted, IsRoomier};
 ghost use Rattle.td_core.specs.Refusals.{IsRefused};
@@ -11,20 +11,18 @@ ghost use Rattle.td_core.specs.Released.{IsIn, IsAsBefore, HaveRoomForLoads, loa
 ghost use Rattle.td_shard.specs.Messages.{AreApart};
 ghost use Rattle.td_core.specs.Sites.{outlets_in};
 ghost use Rattle.td_core.specs.declared.error.HallError.TheVariants.{Memory};
+ghost use Rattle.td_reach.specs.declared.stamp.Stamp.{Stamp as AnyStamp};
 
-use crate::close::take_off_inputs;
 use crate::error::HallError;
-use crate::floor::Floor;
-use crate::hall::Hall;
-use crate::posting::{Counts, count, make_room_for, post};
-use crate::raising::{Rise, raise, rises_on};
-use crate::sites::Sites;
+use crate::hall::{Floor, Hall, Sites};
+use crate::posting::{Counts, Rise, count, make_room_for, post, raise, rises_on};
 use std::alloc::{AllocError, Global};
 use td_calls::Law;
 use td_machine::laws::{
     bags_of_states, come_of_plan, in_parts, reached, reached_in_order, sent_of_plan, stamps_move,
 };
 use td_plan::laws::look_ups;
+use td_progress::Table;
 use td_progress::laws::counted;
 use td_reach::{Place, Stamp};
 use td_shard::Shard;
@@ -199,5 +197,35 @@ fn post_loads(shards: &mut Vec<Shard>, sites: &Sites, loads: &[Load], epoch: u64
             &time,
             load.recs.as_slice(),
         );
+    }
+}
+
+impl<L: Law> Hall<L> {
+    /// Closes the inputs: no batch is released any more. It takes no memory.
+    pub fn close(&mut self)
+        ensures { close_step self.old ≡ (has_closed, self.new) }
+    {
+        reached::<L>();
+        counted();
+        if !self.floor.closed {
+            let inputs = self.floor.inputs.as_slice();
+            take_off_inputs(&mut self.floor.table, inputs, self.floor.next);
+            self.floor.closed = true;
+        }
+    }
+}
+
+/// The inputs are no longer active at an epoch.
+pub(crate) fn take_off_inputs(table: &mut Table, inputs: &[u8], epoch: u64)
+    requires { (p : AnyStamp) → occurrences p (map (input_stamp epoch) inputs.now) ≤ occurrences p table.old.stamps }
+    ensures plan { table.new.plan ≡ table.old.plan }
+    ensures stamps { IsSameBag table.old.stamps (map (input_stamp epoch) inputs.now ++ table.new.stamps) }
+{
+    counted();
+    for input in inputs {
+        table.take_off(&Stamp {
+            time: Time::new(epoch),
+            place: Place::Vertex(*input),
+        });
     }
 }

@@ -5,7 +5,7 @@ ghost use Rattle.std.specs.List.{list_any};
 ghost use Rattle.td_stamp.specs.Groups.{groups};
 ghost use Rattle.td_stamp.specs.States.{state_of as kept_of};
 ghost use Rattle.td_stamp.specs.declared.values.Arrival.{Arrival as AnyArrival};
-ghost use Rattle.td_shard.specs.declared.noted.Noted.{Noted as AnyNoted};
+ghost use Rattle.td_shard.specs.declared.waiting.Noted.{Noted as AnyNoted};
 ghost use Rattle.td_calls.specs.Callbacks.{is_notified as is_notified_kind};
 ghost use Rattle.td_machine.specs.State.{HallState, Task as AnyTask, is_out, with_left};
 ghost use Rattle.td_machine.specs.Steps.{Takes, MayTake, with_state_of, ends};
@@ -24,9 +24,7 @@ ghost use Rattle.td_core.specs.declared.take.Candidate.TheVariants.{Message, Not
 ghost use Rattle.td_core.specs.declared.error.HallError.TheVariants.{Memory};
 
 use crate::error::HallError;
-use crate::floor::Floor;
-use crate::hall::Hall;
-use crate::sites::Sites;
+use crate::hall::{Floor, Hall, Sites};
 use std::alloc::Global;
 use std::sync::Arc;
 use td_calls::Law;

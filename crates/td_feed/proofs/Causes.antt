@@ -10,7 +10,7 @@ use Rattle.td_core.specs.declared.error.HallError.TheVariants as hall
 use Rattle.td_pool.specs.declared.error.PoolError.{PoolError}
 use Rattle.td_pool.specs.declared.error.PoolError.TheVariants as pool
 use Rattle.td_disk.specs.Disk.{DiskView}
-use Rattle.td_journal.specs.declared.submitted.Submitted.{Submitted}
+use Rattle.td_journal.specs.declared.payload.Submitted.{Submitted}
 use Rattle.td_journal.specs.Numbers.{greatest}
 use Rattle.td_console.specs.declared.faults.Fault.{Fault}
 use Rattle.td_console.specs.declared.faults.Fault.TheVariants.{Line, Output, Memory, Keeper}
@@ -20,10 +20,10 @@ use Rattle.td_store.specs.declared.standing.error.KeeperError.{KeeperError}
 use Rattle.td_store.specs.declared.standing.error.KeeperError.TheVariants as keeper
 use Rattle.td_keeper.specs.declared.command.Reply.{Reply}
 use Rattle.td_keeper.specs.declared.command.Reply.TheVariants.{Refused, RefusedAll}
-use Rattle.td_keeper.specs.declared.group.GroupError.TheVariants.{Keeper as ByKeeper}
+use Rattle.td_keeper.specs.declared.submit_all.GroupError.TheVariants.{Keeper as ByKeeper}
 use Rattle.td_feed.specs.Said.{fault_in}
-use Rattle.td_orders.specs.declared.at_once.Asked.{Asked}
-use Rattle.td_orders.specs.declared.at_once.Asked.TheVariants.{One, Epochs}
+use Rattle.td_orders.specs.declared.asking.Asked.{Asked}
+use Rattle.td_orders.specs.declared.asking.Asked.TheVariants.{One, Epochs}
 use Rattle.td_orders.specs.declared.order.Order.{Order}
 use Rattle.td_orders.specs.Scripts.{Script, Asks, IsOf, TellsLine, is_of_reader}
 use Rattle.td_store.specs.standing.Standing.{last_epoch, last_request}

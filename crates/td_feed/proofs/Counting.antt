@@ -7,7 +7,7 @@ use Rattle.td_store.specs.declared.standing.error.KeeperError.{KeeperError}
 use Rattle.td_store.specs.declared.standing.error.KeeperError.TheVariants as error
 use Rattle.td_keeper.specs.declared.command.Reply.{Reply}
 use Rattle.td_keeper.specs.declared.command.Reply.TheVariants.{Submitted, SubmittedAs, SubmittedAll, Released, Settled, Collected, Out, CutTaken, Answered, Written, Closed, Refused, RefusedAll}
-use Rattle.td_keeper.specs.declared.group.GroupError.TheVariants as group
+use Rattle.td_keeper.specs.declared.submit_all.GroupError.TheVariants as group
 use Rattle.td_keeper.specs.Driven.{is_device, some_failed}
 use Rattle.td_core.specs.declared.error.HallError.TheVariants as hall
 use Rattle.td_pool.specs.declared.error.PoolError.{PoolError}

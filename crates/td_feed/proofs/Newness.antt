@@ -3,7 +3,7 @@ use Rattle.std.proofs.Common.{◌≡◌, ℕ, List, ◌++◌, sym, ap, ◌∙◌
 use Rattle.td_plan.specs.Lines.{Line}
 use Rattle.td_calls.specs.Answers.{Answers}
 use Rattle.td_journal.specs.Numbers.{greatest}
-use Rattle.td_journal.specs.declared.submitted.Submitted.{Submitted}
+use Rattle.td_journal.specs.declared.payload.Submitted.{Submitted}
 use Rattle.td_store.specs.standing.Standing.{Standing, last_request}
 use Rattle.td_store.specs.standing.Stops.{Stands}
 use Rattle.td_store.specs.standing.Advanced.{states_by}

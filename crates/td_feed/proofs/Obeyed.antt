@@ -5,15 +5,15 @@ use Rattle.std.proofs.lemmas.Option.{IfSome_then}
 use Rattle.std.specs.Option.{IfSome}
 use Rattle.td_calls.specs.Answers.{Answers}
 use Rattle.td_disk.specs.Disk.{DiskView}
-use Rattle.td_journal.specs.declared.submitted.Submitted.{Submitted}
+use Rattle.td_journal.specs.declared.payload.Submitted.{Submitted}
 use Rattle.td_journal.specs.Numbers.{greatest}
 use Rattle.td_stamp.specs.declared.values.Entry.{Entry}
 use Rattle.td_store.specs.standing.Standing.{last_request, submission}
 use Rattle.td_store.specs.standing.Stops.{Begins}
 use Rattle.td_keeper.specs.Keeping.{Keeping}
 use Rattle.td_orders.specs.declared.order.Order.{Order}
-use Rattle.td_orders.specs.declared.at_once.Asked.{Asked}
-use Rattle.td_orders.specs.declared.at_once.Asked.TheVariants.{One, Epochs}
+use Rattle.td_orders.specs.declared.asking.Asked.{Asked}
+use Rattle.td_orders.specs.declared.asking.Asked.TheVariants.{One, Epochs}
 use Rattle.td_orders.specs.Noted.{Aside, ComeOf, copied_in}
 use Rattle.td_orders.specs.Orders.{submissions, notes_in, order_for, new_after}
 use Rattle.td_orders.specs.Scripts.{Script, SeeNothing, Asks, IsOf, asked_for, notes_for}

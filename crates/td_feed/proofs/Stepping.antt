@@ -8,7 +8,7 @@ use Rattle.std.proofs.lemmas.Bool.{ltb-true, ltb-false}
 use Rattle.std.proofs.lemmas.List.{length-drop}
 use Rattle.td_calls.specs.Answers.{Answers}
 use Rattle.td_disk.specs.Disk.{DiskView}
-use Rattle.td_journal.specs.declared.submitted.Submitted.{Submitted as AnySubmitted}
+use Rattle.td_journal.specs.declared.payload.Submitted.{Submitted as AnySubmitted}
 use Rattle.td_store.specs.declared.standing.error.KeeperError.{KeeperError}
 use Rattle.td_store.specs.declared.standing.error.KeeperError.TheVariants as error
 use Rattle.td_store.specs.standing.Standing.{last_epoch, batches_of}
@@ -25,8 +25,8 @@ use Rattle.td_stamp.specs.States.{StateList}
 use Rattle.td_questions.specs.declared.question.Wanted.{Wanted as Of}
 use Rattle.td_questions.specs.Lines.{answer_lines}
 use Rattle.td_orders.specs.Noted.Aside.{to_answer}
-use Rattle.td_orders.specs.declared.at_once.Asked.{Asked}
-use Rattle.td_orders.specs.declared.at_once.Asked.TheVariants.{One}
+use Rattle.td_orders.specs.declared.asking.Asked.{Asked}
+use Rattle.td_orders.specs.declared.asking.Asked.TheVariants.{One}
 use Rattle.td_orders.specs.declared.order.Order.{Order}
 use Rattle.td_orders.specs.Noted.{Aside}
 use Rattle.td_orders.specs.Scripts.{asked_for, notes_for}

@@ -3,7 +3,7 @@ use Rattle.std.specs.Prelude.{◌≡◌, ◌⊎◌, ℕ, ◌+◌, ◌≤◌, Boo
 use Rattle.td_plan.specs.Lines.{Line}
 use Rattle.td_calls.specs.Answers.{Answers}
 use Rattle.td_disk.specs.Disk.{DiskView}
-use Rattle.td_journal.specs.declared.submitted.Submitted.{Submitted}
+use Rattle.td_journal.specs.declared.payload.Submitted.{Submitted}
 use Rattle.td_journal.specs.Numbers.{greatest}
 use Rattle.td_store.specs.group.Groups.{may_follow}
 use Rattle.td_store.specs.standing.Standing.{last_epoch, last_request, submission}
@@ -14,7 +14,7 @@ use Rattle.td_keeper.specs.declared.command.Command.{Command}
 use Rattle.td_keeper.specs.declared.command.Command.TheVariants.{Submit, SubmitAs, SubmitAll, WriteCut, CloseFree}
 use Rattle.td_keeper.specs.declared.command.Reply.{Reply}
 use Rattle.td_keeper.specs.declared.command.Reply.TheVariants.{Refused, RefusedAll}
-use Rattle.td_keeper.specs.declared.group.GroupError.TheVariants.{Repeated}
+use Rattle.td_keeper.specs.declared.submit_all.GroupError.TheVariants.{Repeated}
 use Rattle.td_orders.specs.Orders.{new_after}
 use Rattle.td_feed.specs.Fed.{TellsHistory}
 

@@ -6,7 +6,7 @@ use Rattle.td_core.specs.declared.error.HallError.TheVariants as hall
 use Rattle.td_pool.specs.declared.error.PoolError.{PoolError}
 use Rattle.td_pool.specs.declared.error.PoolError.TheVariants as pool
 use Rattle.td_disk.specs.Disk.{DiskState}
-use Rattle.td_journal.specs.declared.submitted.Submitted.{Submitted}
+use Rattle.td_journal.specs.declared.payload.Submitted.{Submitted}
 use Rattle.td_store.specs.declared.standing.error.KeeperError.TheVariants as keeper
 use Rattle.td_store.specs.standing.Standing.{Standing}
 use Rattle.td_store.specs.standing.Stops.{Stands}

@@ -8,7 +8,7 @@ use Rattle.td_plan.specs.Lines.{Line as PlanLine}
 use Rattle.td_calls.specs.Answers.{Answers}
 use Rattle.td_disk.specs.Disk.{DiskView, Rises, IsDurable}
 use Rattle.td_gate.specs.CrashSafe.{CrashSafe, Unchanged}
-use Rattle.td_journal.specs.declared.submitted.Submitted.{Submitted as AnySubmitted}
+use Rattle.td_journal.specs.declared.payload.Submitted.{Submitted as AnySubmitted}
 use Rattle.td_watch.specs.View.{View}
 use Rattle.td_store.specs.declared.standing.error.KeeperError.{KeeperError}
 use Rattle.td_store.specs.declared.standing.error.KeeperError.TheVariants.{Device, TooManyRecords, Epochs, Foreign}
@@ -21,7 +21,7 @@ use Rattle.td_store.specs.standing.Stops.{Begins}
 use Rattle.td_keeper.specs.declared.command.Command.{Command}
 use Rattle.td_keeper.specs.declared.command.Reply.{Reply}
 use Rattle.td_keeper.specs.declared.command.Reply.TheVariants.{Submitted, SubmittedAs, SubmittedAll, Out, Answered, Written, Refused, RefusedAll}
-use Rattle.td_keeper.specs.declared.group.GroupError.TheVariants.{Keeper}
+use Rattle.td_keeper.specs.declared.submit_all.GroupError.TheVariants.{Keeper}
 use Rattle.td_keeper.specs.declared.command.Command.TheVariants.{SubmitAs, Answer}
 use Rattle.td_keeper.specs.declared.receipt.Receipt.TheVariants.{New, Already}
 use Rattle.td_keeper.specs.Keeping.{Keeping, IsKeeping, IsFreshlyOpened}

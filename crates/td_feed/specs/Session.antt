@@ -8,7 +8,7 @@ use Rattle.td_calls.specs.Fits.{first_lack}
 use Rattle.td_watch.specs.View.{View}
 use Rattle.td_head.specs.declared.head.Head.{Head}
 use Rattle.td_disk.specs.Disk.{DiskView, DiskState}
-use Rattle.td_journal.specs.declared.submitted.Submitted.{Submitted as AnySubmitted}
+use Rattle.td_journal.specs.declared.payload.Submitted.{Submitted as AnySubmitted}
 use Rattle.td_journal.specs.Numbers.{greatest}
 use Rattle.td_store.specs.declared.standing.error.KeeperError.TheVariants.{Device}
 use Rattle.td_store.specs.standing.Standing.{Standing, last_epoch, last_request}

@@ -3,7 +3,7 @@ use Rattle.std.specs.Prelude.{◌≡◌, ◌⊎◌, ◌↔◌, ℕ, ◌≤◌, B
 use Rattle.td_calls.specs.Answers.{Answers}
 use Rattle.td_disk.specs.Disk.{DiskView}
 use Rattle.td_machine.specs.State.{HallState}
-use Rattle.td_journal.specs.declared.submitted.Submitted.{Submitted as AnySubmitted}
+use Rattle.td_journal.specs.declared.payload.Submitted.{Submitted as AnySubmitted}
 use Rattle.td_store.specs.declared.standing.error.KeeperError.{KeeperError}
 use Rattle.td_keeper.specs.declared.command.Command.{Command}
 use Rattle.td_keeper.specs.declared.command.Reply.{Reply}
@@ -13,7 +13,7 @@ use Rattle.td_keeper.specs.Halls.{IsDone}
 use Rattle.td_keeper.specs.Driven.{may_write, Obeys}
 use Rattle.td_console.specs.declared.faults.Fault.{Fault}
 use Rattle.td_console.specs.Refusals.{keeper_fault}
-use Rattle.td_orders.specs.declared.at_once.Asked.{Asked}
+use Rattle.td_orders.specs.declared.asking.Asked.{Asked}
 use Rattle.td_orders.specs.Scripts.{asked_for, notes_for}
 use Rattle.td_feed.specs.declared.under_way.Pace.{Pace}
 use Rattle.td_feed.specs.declared.under_way.Pace.TheVariants.{AtEnd, Live}

@@ -1,7 +1,7 @@
 //! Laws of the definitions. Each is the contract of a function that does nothing.
 ghost use Rattle.std.specs.Prelude.{◌≡◌, ◌++◌, ◌<◌, ◌≤◌, List, [], length, ℕ, Bool, true, false, Option, None, Result as AnyResult, Ok};
 ghost use Rattle.td_plan.specs.Lines.{Line};
-ghost use Rattle.td_journal.specs.declared.submitted.Submitted.{Submitted as AnySubmitted};
+ghost use Rattle.td_journal.specs.declared.payload.Submitted.{Submitted as AnySubmitted};
 ghost use Rattle.td_console.specs.declared.faults.Fault.{Fault as AnyFault};
 ghost use Rattle.td_keeper.specs.declared.command.Command.{Command as AnyCommand};
 ghost use Rattle.td_keeper.specs.declared.command.Reply.{Reply as AnyReply};

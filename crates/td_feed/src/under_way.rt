@@ -11,7 +11,7 @@ ghost use Rattle.td_keeper.specs.declared.command.Reply.TheVariants.{Out};
 ghost use Rattle.td_keeper.specs.Keeping.{since_base};
 ghost use Rattle.td_keeper.specs.Halls.{IsDone, place_between};
 ghost use Rattle.td_keeper.specs.Driven.{Driven};
-ghost use Rattle.td_orders.specs.declared.at_once.Asked.TheVariants.{One};
+ghost use Rattle.td_orders.specs.declared.asking.Asked.TheVariants.{One};
 ghost use Rattle.td_orders.specs.Noted.Aside.{to_answer};
 ghost use Rattle.td_orders.specs.Scripts.{is_of_reader, MayFollow};
 ghost use Rattle.td_feed.specs.Carried.{new_to, IsRising, Carries};

@@ -1,7 +1,7 @@
 //! Raising a disk to the version of the format that has request numbers.
 ghost use Rattle.std.specs.Prelude.{List, IfErr, OnOk};
 ghost use Rattle.std.specs.Io.KnownBytes.{Appends};
-ghost use Rattle.td_journal.specs.declared.submitted.Submitted.{Submitted as AnySubmitted};
+ghost use Rattle.td_journal.specs.declared.payload.Submitted.{Submitted as AnySubmitted};
 ghost use Rattle.td_store.specs.declared.standing.error.KeeperError.TheVariants.{Device};
 ghost use Rattle.td_gate.specs.Steps.{SameUnless};
 ghost use Rattle.td_feed.specs.Fed.{EachTellsHistory};

@@ -10,10 +10,8 @@
 
 mod error;
 pub mod fields;
-mod get;
 pub mod laws;
 mod region;
-mod write_and_sync;
 
 pub use error::GateError;
 pub use region::{Closed, Filled, OPEN, Region};

@@ -10,7 +10,7 @@ use Rattle.td_gate.specs.Fields.{number_bytes, number_at, signed_at, signed_byte
 use Rattle.td_gate.specs.Reading.{number_behind, signed_behind, length_bytes, front_back, front_past, front_size, each_back, each_size}
 use Rattle.td_gate.specs.Region.{opened}
 use Rattle.td_journal.specs.declared.journal.Journal.{Journal}
-use Rattle.td_journal.specs.declared.submitted.Submitted.{Submitted}
+use Rattle.td_journal.specs.declared.payload.Submitted.{Submitted}
 use Rattle.td_journal.specs.Numbers.{may_come}
 use Rattle.td_journal.specs.Images.{IsBorne}
 use Rattle.td_journal.specs.Cell.{cell_of, cell_len, entry_bytes, entry_in, cell_bytes, batch_in, submitted_in, is_batch, is_cell, bears, where_borne, where_valid, found_in, FitsEntry, IsCellBatch}

@@ -9,7 +9,7 @@ use Rattle.td_gate.specs.Region.{gate_of, opened, start_of, SameWithin, IsSettle
 use Rattle.td_gate.specs.Fields.{number_at}
 use Rattle.td_gate.specs.Reading.{number_taken}
 use Rattle.td_journal.specs.declared.journal.Journal.{Journal}
-use Rattle.td_journal.specs.declared.submitted.Submitted.{Submitted}
+use Rattle.td_journal.specs.declared.payload.Submitted.{Submitted}
 use Rattle.td_journal.specs.Cell.{cell_of, bears, found_in, where_borne, where_valid, is_cell, submitted_in}
 use Rattle.td_journal.specs.Cell.Found.{ended, submitted, damaged}
 use Rattle.td_journal.specs.Images.{IsBorne, IsGone, Clears}

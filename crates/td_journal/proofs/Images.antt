@@ -5,7 +5,7 @@ use Rattle.std.proofs.lemmas.List.{length_push, length-drop}
 use Rattle.std.proofs.Math.Nat.{mod-lt, add-mod_right}
 use Rattle.td_gate.specs.Region.{opened}
 use Rattle.td_journal.specs.declared.journal.Journal.{Journal}
-use Rattle.td_journal.specs.declared.submitted.Submitted.{Submitted}
+use Rattle.td_journal.specs.declared.payload.Submitted.{Submitted}
 use Rattle.td_journal.specs.Numbers.{floor_after, may_come, rise}
 use Rattle.td_journal.specs.Cell.{Found, cell, cell_of, cell_bytes, bears, found_in, IsCellBatch}
 use Rattle.td_journal.specs.Cell.Found.{ended, submitted, damaged}

@@ -4,7 +4,7 @@ use Rattle.std.specs.Prelude.{All, filter}
 use Rattle.std.proofs.Math.Nat.{le-max_left, le-max_right, max-eq_left, max-eq_right}
 use Rattle.std.proofs.lemmas.Bool.{cases_Bool, and_from, and_left, eqb-true, ltb-true}
 use Rattle.td_gate.specs.Fields.{is_chain}
-use Rattle.td_journal.specs.declared.submitted.Submitted.{Submitted}
+use Rattle.td_journal.specs.declared.payload.Submitted.{Submitted}
 use Rattle.td_journal.specs.Numbers.{may_come, raised, greatest, floor_after, rise}
 use Rattle.td_journal.specs.Cell.{Found}
 use Rattle.td_journal.specs.Cell.Found.{submitted}

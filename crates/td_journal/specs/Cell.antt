@@ -9,7 +9,7 @@ use Rattle.td_gate.specs.Fields.{number_bytes, number_at, signed_at, signed_byte
 use Rattle.td_gate.specs.Reading.{Each}
 use Rattle.td_gate.specs.declared.region.Region.{Region}
 use Rattle.td_journal.specs.declared.journal.Journal.{Journal}
-use Rattle.td_journal.specs.declared.submitted.Submitted.{Submitted}
+use Rattle.td_journal.specs.declared.payload.Submitted.{Submitted}
 use Rattle.td_journal.specs.Numbers.{may_come}
 
 -- how many bytes a payload has, for so many records

@@ -1,7 +1,7 @@
 -- What was submitted, with how many records there were in place of these.
 use Rattle.std.specs.Prelude.{ℕ, max, List, [], ◌∷◌, length}
-use Rattle.td_journal.specs.declared.submitted.Submitted.{Submitted}
-use Rattle.td_journal.specs.declared.submitted.Counts.{Counts}
+use Rattle.td_journal.specs.declared.payload.Submitted.{Submitted}
+use Rattle.td_journal.specs.declared.payload.Counts.{Counts}
 
 abbrev pub counts_of : Submitted → Counts
 counts_of s = record { request = s.request; records = length s.batch }

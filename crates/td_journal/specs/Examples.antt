@@ -4,7 +4,7 @@ use Rattle.std.proofs.Common.{refl}
 use Rattle.td_gate.specs.Fields.{number_at, number_bytes}
 use Rattle.td_stamp.specs.declared.values.Entry.{Entry}
 use Rattle.td_journal.specs.declared.journal.Journal.{Journal}
-use Rattle.td_journal.specs.declared.submitted.Submitted.{Submitted}
+use Rattle.td_journal.specs.declared.payload.Submitted.{Submitted}
 use Rattle.td_journal.specs.declared.error.JournalError.TheVariants.{Damaged}
 use Rattle.td_journal.specs.Numbers.{rise}
 use Rattle.td_journal.specs.Cell.{Found, cell, cell_of, cell_bytes, found_in}

@@ -3,7 +3,7 @@ use Rattle.std.specs.Prelude.{◌≡◌, ◌⊎◌, Some, true, ℕ, ◌+◌, �
 use Rattle.td_disk.specs.Disk.{DiskState}
 use Rattle.td_gate.specs.Region.{opened, Closes}
 use Rattle.td_journal.specs.declared.journal.Journal.{Journal}
-use Rattle.td_journal.specs.declared.submitted.Submitted.{Submitted}
+use Rattle.td_journal.specs.declared.payload.Submitted.{Submitted}
 use Rattle.td_journal.specs.Cell.{cell, cell_of, bears}
 use Rattle.td_journal.specs.Ring.{told_after}
 

@@ -2,7 +2,7 @@
 use Rattle.std.specs.Prelude.{ℕ, ◌==◌, ◌||◌, not, max, Bool, nat_lt, List, [], ◌∷◌, map, filter, Option, Some, None}
 use Rattle.std.specs.List.{list_all}
 use Rattle.td_gate.specs.Fields.{is_chain}
-use Rattle.td_journal.specs.declared.submitted.Submitted.{Submitted}
+use Rattle.td_journal.specs.declared.payload.Submitted.{Submitted}
 
 -- whether a number may come after a floor: it is 0, or above it
 abbrev pub may_come : Option ℕ → ℕ → Bool

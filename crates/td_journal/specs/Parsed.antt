@@ -4,7 +4,7 @@ use Rattle.std.specs.Ordering.{is_le}
 use Rattle.td_stamp.specs.declared.values.Entry.{Entry}
 use Rattle.td_stamp.specs.Orders.{entry_cmp}
 use Rattle.td_gate.specs.Fields.{is_chain}
-use Rattle.td_journal.specs.declared.submitted.Submitted.{Submitted}
+use Rattle.td_journal.specs.declared.payload.Submitted.{Submitted}
 use Rattle.td_journal.specs.declared.error.JournalError.{JournalError}
 use Rattle.td_journal.specs.declared.error.JournalError.TheVariants.{Damaged}
 use Rattle.td_journal.specs.Cell.{Found, is_batch, is_cell, submitted_in}

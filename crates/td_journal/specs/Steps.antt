@@ -6,7 +6,7 @@ use Rattle.td_gate.specs.CrashSafe.{CrashSafe}
 use Rattle.td_gate.specs.Region.{IsSettled}
 use Rattle.td_gate.specs.Steps.{HasPut, SameUnless}
 use Rattle.td_journal.specs.declared.journal.Journal.{Journal}
-use Rattle.td_journal.specs.declared.submitted.Submitted.{Submitted}
+use Rattle.td_journal.specs.declared.payload.Submitted.{Submitted}
 use Rattle.td_journal.specs.declared.error.JournalError.{JournalError}
 use Rattle.td_journal.specs.declared.error.JournalError.TheVariants.{Full, TooManyRecords, Device}
 use Rattle.td_journal.specs.Cell.{cell_of, cell_bytes, is_batch}

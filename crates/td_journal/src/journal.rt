@@ -15,10 +15,7 @@ ghost use Rattle.td_journal.specs.Steps.{ClearsSafely, LeavesGone, PutsEpoch, Re
 
 use crate::error::JournalError;
 use crate::keeping::{Counting, Keeping};
-use crate::numbers::floor_past;
-use crate::parse::kept_by;
-use crate::payload::{ENTRY_LEN, cell_payload};
-use crate::submitted::{Counts, Submitted};
+use crate::payload::{Counts, ENTRY_LEN, Submitted, cell_payload, floor_past, kept_by};
 use std::alloc::Global;
 use td_disk::Disk;
 use td_gate::Region;

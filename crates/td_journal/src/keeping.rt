@@ -6,7 +6,7 @@
 ghost use Rattle.std.specs.Prelude.{◌≡◌};
 ghost use Rattle.td_journal.specs.Counts.{counts_of};
 
-use crate::submitted::{Counts, Submitted};
+use crate::payload::{Counts, Submitted};
 use std::alloc::{AllocError, Global};
 use td_gate::fields::Front;
 use td_stamp::{Bag, Entry};
@@ -15,7 +15,7 @@ use td_stamp::{Bag, Entry};
 pub(crate) trait Keeping: Drop {
     ghost use Rattle.std.specs.Prelude.{◌≡◌, ◌++◌, [], ◌∷◌, List, length, true, IfOk, OnOk};
     ghost use Rattle.td_stamp.specs.declared.values.Entry.{Entry};
-    ghost use Rattle.td_journal.specs.declared.submitted.Submitted.{Submitted};
+    ghost use Rattle.td_journal.specs.declared.payload.Submitted.{Submitted};
     ghost use Rattle.td_journal.specs.Parsed.{are_in_order};
 
     /// What is kept of an epoch.

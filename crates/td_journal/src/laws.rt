@@ -8,7 +8,7 @@ ghost use Rattle.td_stamp.specs.Orders.{entry_cmp};
 ghost use Rattle.td_gate.specs.Region.{opened, Closes, Puts};
 ghost use Rattle.td_gate.specs.Regions.{Apart, Replaces};
 ghost use Rattle.td_journal.specs.declared.journal.Journal.{Journal as AnyJournal};
-ghost use Rattle.td_journal.specs.declared.submitted.Submitted.{Submitted as AnySubmitted};
+ghost use Rattle.td_journal.specs.declared.payload.Submitted.{Submitted as AnySubmitted};
 ghost use Rattle.td_journal.specs.Cell.{is_batch, cell, cell_of, cell_len, ring_len, cell_bytes, found_in, IsCellBatch};
 ghost use Rattle.td_journal.specs.Cell.Found.{submitted};
 ghost use Rattle.td_journal.specs.Images.{IsBorne, IsNext, SameCells, NothingFollows};

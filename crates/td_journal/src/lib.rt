@@ -10,12 +10,8 @@ mod error;
 mod journal;
 mod keeping;
 pub mod laws;
-mod numbers;
-mod parse;
 mod payload;
-mod submitted;
 
 pub use error::JournalError;
 pub use journal::Journal;
-pub use numbers::{greatest_counted, greatest_request};
-pub use submitted::{Counts, Submitted};
+pub use payload::{Counts, Submitted, greatest_counted, greatest_request};

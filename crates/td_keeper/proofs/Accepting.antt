@@ -6,11 +6,11 @@ use Rattle.td_stamp.specs.declared.values.Entry.{Entry}
 use Rattle.td_machine.specs.Steps.{accepts}
 use Rattle.td_store.specs.declared.standing.error.KeeperError.{KeeperError}
 use Rattle.td_store.specs.declared.standing.error.KeeperError.TheVariants.{Broken, NoSuchInput, TooManyRecords, Epochs, Full, Device, OldVersion}
-use Rattle.td_journal.specs.declared.submitted.Submitted.{Submitted}
+use Rattle.td_journal.specs.declared.payload.Submitted.{Submitted}
 use Rattle.td_store.specs.group.Groups.{AreFresh, may_follow}
 use Rattle.td_store.specs.standing.Standing.{Standing, last_epoch, last_request}
-use Rattle.td_keeper.specs.declared.group.GroupError.{GroupError}
-use Rattle.td_keeper.specs.declared.group.GroupError.TheVariants.{Repeated, Keeper}
+use Rattle.td_keeper.specs.declared.submit_all.GroupError.{GroupError}
+use Rattle.td_keeper.specs.declared.submit_all.GroupError.TheVariants.{Repeated, Keeper}
 use Rattle.td_keeper.specs.Keeping.{Keeping}
 use Rattle.td_keeper.specs.Refused.{submit_refusal, group_refusal, has_number, all_accepted, all_few}
 

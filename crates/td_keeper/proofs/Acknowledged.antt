@@ -12,15 +12,15 @@ use Rattle.td_calls.specs.Answers.{Answers}
 use Rattle.td_batch.specs.Meaning.{run}
 use Rattle.td_disk.specs.Disk.{DiskView, DiskState}
 use Rattle.td_head.specs.declared.head.Head.{Head}
-use Rattle.td_journal.specs.declared.submitted.Submitted.{Submitted as AnySubmitted}
+use Rattle.td_journal.specs.declared.payload.Submitted.{Submitted as AnySubmitted}
 use Rattle.td_store.specs.standing.Standing.{Standing, last_epoch, submission, batches_of, with_more, cut_at}
 use Rattle.td_store.specs.standing.Stops.{Begins, Advance, Stands}
 use Rattle.td_store.specs.standing.Tells.{Tells}
 use Rattle.td_store.specs.standing.Advanced.{HeldWhere, states_by}
 use Rattle.td_store.specs.declared.standing.error.KeeperError.{KeeperError}
 use Rattle.td_store.specs.declared.standing.error.KeeperError.TheVariants as error
-use Rattle.td_keeper.specs.declared.group.GroupError.{GroupError}
-use Rattle.td_keeper.specs.declared.group.GroupError.TheVariants.{Keeper}
+use Rattle.td_keeper.specs.declared.submit_all.GroupError.{GroupError}
+use Rattle.td_keeper.specs.declared.submit_all.GroupError.TheVariants.{Keeper}
 use Rattle.td_keeper.specs.declared.command.Command.{Command}
 use Rattle.td_keeper.specs.declared.command.Command.TheVariants.{Submit, SubmitAs, SubmitAll, Release, Settle, Collect, NextOut, Cut, CutUpTo, Answer, WriteCut, CloseFree}
 use Rattle.td_keeper.specs.declared.command.Reply.{Reply}

@@ -11,7 +11,7 @@ use Rattle.td_machine.specs.State.{HallState}
 use Rattle.td_machine.specs.Sound.{Sound, run_states}
 use Rattle.td_questions.specs.Asked.{answer_to}
 use Rattle.td_disk.specs.Disk.{DiskView, DiskState}
-use Rattle.td_journal.specs.declared.submitted.Submitted.{Submitted as AnySubmitted}
+use Rattle.td_journal.specs.declared.payload.Submitted.{Submitted as AnySubmitted}
 use Rattle.td_store.specs.standing.Standing.{last_epoch, batches_of}
 use Rattle.td_store.specs.standing.Stops.{Stands}
 use Rattle.td_store.specs.standing.Advanced.{states_by}

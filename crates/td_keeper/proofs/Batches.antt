@@ -8,7 +8,7 @@ use Rattle.td_plan.specs.Blocks.{PlacedVertex, vertices}
 use Rattle.td_plan.specs.LookedUp.{IsLookedUp}
 use Rattle.std.specs.List.{slice_get}
 use Rattle.td_journal.specs.Cell.{is_batch}
-use Rattle.td_journal.specs.declared.submitted.Submitted.{Submitted}
+use Rattle.td_journal.specs.declared.payload.Submitted.{Submitted}
 use Rattle.td_calls.specs.Answers.{Answers}
 use Rattle.td_machine.specs.State.{HallState}
 use Rattle.td_machine.specs.Steps.{Answer, accepts, release_step}

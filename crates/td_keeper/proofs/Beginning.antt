@@ -2,7 +2,7 @@
 use Rattle.std.proofs.Common.{◌≡◌, ℕ, ◌+◌, ◌<◌, List, [], ◌∷◌, ◌++◌, take, drop, length, get_or, sym, ap, ◌∙◌, arith}
 use Rattle.std.proofs.lemmas.List.{append_assoc, drop_more, take_more, take_all, length-drop, length-append, get_or-drop, get_or_append_left, get_or-map}
 use Rattle.td_stamp.specs.declared.values.Entry.{Entry}
-use Rattle.td_journal.specs.declared.submitted.Submitted.{Submitted}
+use Rattle.td_journal.specs.declared.payload.Submitted.{Submitted}
 use Rattle.td_store.specs.standing.Standing.{batches_of}
 use Rattle.td_keeper.specs.Halls.{Begin}
 

@@ -18,7 +18,7 @@ use Rattle.td_head.specs.declared.head.Head.{Head}
 use Rattle.td_slots.specs.Slot.{are_states, FitsState}
 use Rattle.td_slots.specs.declared.slots.Checkpoint.{Checkpoint}
 use Rattle.td_journal.specs.Numbers.{greatest}
-use Rattle.td_journal.specs.declared.submitted.Submitted.{Submitted}
+use Rattle.td_journal.specs.declared.payload.Submitted.{Submitted}
 use Rattle.td_watch.specs.View.{View}
 use Rattle.td_store.specs.standing.Standing.{Standing, standing_from, batches_of, with_more, cut_at}
 use Rattle.td_store.specs.standing.Stops.{Advance}

@@ -8,15 +8,15 @@ use Rattle.td_plan.specs.Tree.{Nodes, tree_of}
 use Rattle.td_calls.specs.Answers.{Answers}
 use Rattle.td_batch.specs.Meaning.{run}
 use Rattle.td_disk.specs.Disk.{DiskView, DiskState}
-use Rattle.td_journal.specs.declared.submitted.Submitted.{Submitted as AnySubmitted}
+use Rattle.td_journal.specs.declared.payload.Submitted.{Submitted as AnySubmitted}
 use Rattle.td_questions.specs.declared.question.Wanted.{Wanted}
 use Rattle.td_store.specs.standing.Standing.{Standing, last_epoch, submission, batches_of, with_more, cut_at}
 use Rattle.td_store.specs.standing.Stops.{Advance}
 use Rattle.td_store.specs.standing.Advanced.{TellsAdvance, AdvancesSince, states_by}
 use Rattle.td_store.specs.declared.standing.error.KeeperError.{KeeperError}
 use Rattle.td_store.specs.declared.standing.error.KeeperError.TheVariants as error
-use Rattle.td_keeper.specs.declared.group.GroupError.{GroupError}
-use Rattle.td_keeper.specs.declared.group.GroupError.TheVariants.{Repeated, Keeper}
+use Rattle.td_keeper.specs.declared.submit_all.GroupError.{GroupError}
+use Rattle.td_keeper.specs.declared.submit_all.GroupError.TheVariants.{Repeated, Keeper}
 use Rattle.td_keeper.specs.declared.command.Command.{Command}
 use Rattle.td_keeper.specs.declared.command.Command.TheVariants.{Submit, SubmitAs, SubmitAll, Release, Settle, Collect, NextOut, Cut, CutUpTo, Answer, WriteCut, CloseFree}
 use Rattle.td_keeper.specs.declared.command.Reply.{Reply}

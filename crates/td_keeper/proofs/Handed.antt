@@ -13,7 +13,7 @@ use Rattle.td_plan.specs.Lines.{Line}
 use Rattle.td_plan.specs.Tree.{tree_of}
 use Rattle.td_calls.specs.Answers.{Answers}
 use Rattle.td_batch.specs.Meaning.{run, numbered}
-use Rattle.td_journal.specs.declared.submitted.Submitted.{Submitted as AnySubmitted}
+use Rattle.td_journal.specs.declared.payload.Submitted.{Submitted as AnySubmitted}
 use Rattle.td_store.specs.standing.Standing.{Standing, last_epoch, batches_of}
 use Rattle.td_store.specs.standing.Stops.{Begins, Stands}
 use Rattle.td_store.specs.standing.Advanced.{states_by}

@@ -13,7 +13,7 @@ use Rattle.td_head.specs.declared.head.Head.{Head}
 use Rattle.td_slots.specs.Slot.{are_states}
 use Rattle.td_slots.specs.declared.slots.Checkpoint.{Checkpoint}
 use Rattle.td_journal.specs.Cell.{is_batch}
-use Rattle.td_journal.specs.declared.submitted.Submitted.{Submitted}
+use Rattle.td_journal.specs.declared.payload.Submitted.{Submitted}
 use Rattle.td_store.specs.group.Groups.{AreBatches}
 use Rattle.td_store.specs.standing.Standing.{Standing, standing_from, batches_of, last_epoch, nothing_told, with_more, cut_at}
 use Rattle.td_store.specs.standing.Told.{inputs_of, folds_of}

@@ -4,7 +4,7 @@ use Rattle.std.specs.Prelude.{Option, None, Some, Result, Ok, Err, OnOk, IfErr}
 use Rattle.td_calls.specs.Answers.{Answers}
 use Rattle.td_disk.specs.Disk.{DiskView, DiskState, Rises}
 use Rattle.td_gate.specs.CrashSafe.{CrashSafe, Unchanged}
-use Rattle.td_journal.specs.declared.submitted.Submitted.{Submitted}
+use Rattle.td_journal.specs.declared.payload.Submitted.{Submitted}
 use Rattle.td_store.specs.standing.Standing.{last_epoch}
 use Rattle.td_store.specs.standing.Advanced.{AdvancesSince, HeldWhere}
 use Rattle.td_disk.specs.Calls.{KeepsDevice}

@@ -6,15 +6,15 @@ use Rattle.td_calls.specs.Answers.{Answers}
 use Rattle.td_disk.specs.Disk.{DiskView}
 use Rattle.td_disk.specs.Calls.{KeepsDevice}
 use Rattle.td_machine.specs.State.{HallState}
-use Rattle.td_journal.specs.declared.submitted.Submitted.{Submitted as AnySubmitted}
+use Rattle.td_journal.specs.declared.payload.Submitted.{Submitted as AnySubmitted}
 use Rattle.td_store.specs.standing.Standing.{last_epoch, submission}
 use Rattle.td_store.specs.standing.Advanced.{AdvancesSince}
 use Rattle.td_store.specs.declared.standing.error.KeeperError.{KeeperError}
 use Rattle.td_store.specs.declared.standing.error.KeeperError.TheVariants as error
 use Rattle.td_keeper.specs.declared.command.Command.TheVariants.{Submit, SubmitAs, SubmitAll, WriteCut, CloseFree}
 use Rattle.td_keeper.specs.declared.command.Reply.TheVariants.{Submitted, SubmittedAll, Written, Closed, Refused, RefusedAll}
-use Rattle.td_keeper.specs.declared.group.GroupError.{GroupError}
-use Rattle.td_keeper.specs.declared.group.GroupError.TheVariants.{Keeper as ByKeeper}
+use Rattle.td_keeper.specs.declared.submit_all.GroupError.{GroupError}
+use Rattle.td_keeper.specs.declared.submit_all.GroupError.TheVariants.{Keeper as ByKeeper}
 use Rattle.td_keeper.specs.declared.receipt.Receipt.{Receipt}
 use Rattle.td_keeper.specs.Keeping.{Keeping, IsKeeping}
 use Rattle.td_keeper.specs.Halls.{IsOwn}

@@ -10,14 +10,14 @@ use Rattle.td_batch.specs.Meaning.{run}
 use Rattle.td_head.specs.declared.head.Head.{Head}
 use Rattle.td_disk.specs.Disk.{DiskView, DiskState}
 use Rattle.td_journal.specs.Numbers.{greatest}
-use Rattle.td_journal.specs.declared.submitted.Submitted.{Submitted as AnySubmitted}
+use Rattle.td_journal.specs.declared.payload.Submitted.{Submitted as AnySubmitted}
 use Rattle.td_store.specs.standing.Standing.{Standing, last_epoch, last_request, submission, with_more, cut_at}
 use Rattle.td_store.specs.standing.Stops.{Advance, Holds}
 use Rattle.td_store.specs.standing.Told.{Told}
 use Rattle.td_store.specs.standing.Tells.{Tells}
 use Rattle.td_store.specs.standing.Advanced.{HeldWhere}
 use Rattle.td_store.specs.declared.standing.error.KeeperError.TheVariants as error
-use Rattle.td_keeper.specs.declared.group.GroupError.TheVariants.{Keeper}
+use Rattle.td_keeper.specs.declared.submit_all.GroupError.TheVariants.{Keeper}
 use Rattle.td_keeper.specs.declared.command.Command.{Command}
 use Rattle.td_keeper.specs.declared.command.Command.TheVariants.{Submit, SubmitAs, SubmitAll, Release, Settle, Collect, NextOut, Cut, CutUpTo, Answer, WriteCut, CloseFree}
 use Rattle.td_keeper.specs.declared.command.Reply.{Reply}

@@ -8,7 +8,7 @@ use Rattle.td_machine.specs.State.{HallState}
 use Rattle.td_machine.specs.Sound.{Sound}
 use Rattle.td_machine.specs.Reached.{IsReached}
 use Rattle.td_disk.specs.Disk.{DiskView, DiskState}
-use Rattle.td_journal.specs.declared.submitted.Submitted.{Submitted as AnySubmitted}
+use Rattle.td_journal.specs.declared.payload.Submitted.{Submitted as AnySubmitted}
 use Rattle.td_questions.specs.declared.question.Wanted.{Wanted}
 use Rattle.td_keeper.specs.declared.command.Command.{Command}
 use Rattle.td_keeper.specs.declared.command.Command.TheVariants.{Submit, SubmitAs, SubmitAll, Release, Settle, Collect, NextOut, Cut, CutUpTo, Answer, WriteCut, CloseFree}

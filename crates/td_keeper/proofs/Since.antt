@@ -8,7 +8,7 @@ use Rattle.td_batch.specs.Meaning.{run}
 use Rattle.td_disk.specs.Disk.{DiskView, DiskState}
 use Rattle.td_gate.specs.CrashSafe.{CrashSafe, Unchanged}
 use Rattle.td_head.specs.declared.head.Head.{Head}
-use Rattle.td_journal.specs.declared.submitted.Submitted.{Submitted}
+use Rattle.td_journal.specs.declared.payload.Submitted.{Submitted}
 use Rattle.td_store.specs.declared.standing.error.KeeperError.{KeeperError}
 use Rattle.td_store.specs.standing.Standing.{Standing, last_epoch, with_more}
 use Rattle.td_store.specs.standing.Stops.{Advance, Holds}

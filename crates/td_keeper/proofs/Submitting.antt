@@ -15,7 +15,7 @@ use Rattle.td_head.specs.declared.head.Head.{Head}
 use Rattle.td_journal.specs.Numbers.{may_come, greatest}
 use Rattle.td_journal.specs.Cell.{is_batch}
 use Rattle.td_journal.specs.declared.journal.Journal.{Journal}
-use Rattle.td_journal.specs.declared.submitted.Submitted.{Submitted}
+use Rattle.td_journal.specs.declared.payload.Submitted.{Submitted}
 use Rattle.td_machine.specs.Steps.{accepts}
 use Rattle.td_store.specs.group.Groups.{AllFew, AreBatches, AreFresh, AreFree, AreShut, HasRoomFor}
 use Rattle.td_store.specs.standing.Standing.{Standing, last_epoch, last_request, with_more}

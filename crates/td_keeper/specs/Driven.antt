@@ -18,7 +18,7 @@ use Rattle.td_questions.specs.declared.question.Wanted.{Wanted}
 use Rattle.td_questions.specs.Asked.{answer_to}
 use Rattle.td_store.specs.declared.standing.error.KeeperError.{KeeperError}
 use Rattle.td_store.specs.declared.standing.error.KeeperError.TheVariants.{Foreign, NotPassed, TooManyKeys, Broken, Device, Memory, OldVersion}
-use Rattle.td_journal.specs.declared.submitted.Submitted.{Submitted as AnySubmitted}
+use Rattle.td_journal.specs.declared.payload.Submitted.{Submitted as AnySubmitted}
 use Rattle.td_store.specs.standing.Standing.{last_epoch, batches_of, submission}
 use Rattle.td_store.specs.standing.Advanced.{AdvancesSince, SinceAdvance}
 use Rattle.td_keeper.specs.declared.receipt.Receipt.{Receipt}
@@ -27,8 +27,8 @@ use Rattle.td_keeper.specs.declared.command.Command.{Command}
 use Rattle.td_keeper.specs.declared.command.Command.TheVariants.{Submit, SubmitAs, SubmitAll, Release, Settle, Collect, NextOut, Cut, CutUpTo, Answer, WriteCut, CloseFree}
 use Rattle.td_keeper.specs.declared.command.Reply.{Reply}
 use Rattle.td_keeper.specs.declared.command.Reply.TheVariants.{Submitted, SubmittedAs, SubmittedAll, Released, Settled, Collected, Out, CutTaken, Answered, Written, Closed, Refused, RefusedAll}
-use Rattle.td_keeper.specs.declared.group.GroupError.{GroupError}
-use Rattle.td_keeper.specs.declared.group.GroupError.TheVariants.{Repeated, Keeper}
+use Rattle.td_keeper.specs.declared.submit_all.GroupError.{GroupError}
+use Rattle.td_keeper.specs.declared.submit_all.GroupError.TheVariants.{Repeated, Keeper}
 use Rattle.td_keeper.specs.Keeping.{Keeping, IsKeeping, KeepsSince, IsSameWatch, HasPublished, words_of, since_base}
 use Rattle.td_keeper.specs.Refused.{is_new, submit_refusal, submit_as_refusal, group_refusal, write_refusal, close_refusal, cut_refusal}
 use Rattle.td_keeper.specs.Received.{received_in}

@@ -12,7 +12,7 @@ use Rattle.td_head.specs.declared.head.Head.{Head}
 use Rattle.td_slots.specs.Slot.{are_states}
 use Rattle.td_slots.specs.declared.slots.Checkpoint.{Checkpoint}
 use Rattle.td_journal.specs.Cell.{is_batch}
-use Rattle.td_journal.specs.declared.submitted.Submitted.{Submitted}
+use Rattle.td_journal.specs.declared.payload.Submitted.{Submitted}
 use Rattle.td_store.specs.group.Groups.{AreShut}
 use Rattle.td_watch.specs.View.{View, view_of}
 use Rattle.td_watch.specs.Words.{IsAtMost}

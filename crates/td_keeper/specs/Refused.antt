@@ -11,11 +11,11 @@ use Rattle.td_store.specs.declared.standing.error.KeeperError.{KeeperError}
 use Rattle.td_store.specs.declared.standing.error.KeeperError.TheVariants.{Broken, NoSuchInput, TooManyRecords, Epochs, Full, NotPassed, CutWaiting, TooManyKeys, OldVersion, LastGeneration}
 use Rattle.td_plan.specs.Lines.{Line}
 use Rattle.td_journal.specs.Numbers.{may_come}
-use Rattle.td_journal.specs.declared.submitted.Submitted.{Submitted}
+use Rattle.td_journal.specs.declared.payload.Submitted.{Submitted}
 use Rattle.td_store.specs.group.Groups.{may_follow}
 use Rattle.td_store.specs.standing.Standing.{Standing, last_epoch, last_request}
-use Rattle.td_keeper.specs.declared.group.GroupError.{GroupError}
-use Rattle.td_keeper.specs.declared.group.GroupError.TheVariants.{Repeated, Keeper}
+use Rattle.td_keeper.specs.declared.submit_all.GroupError.{GroupError}
+use Rattle.td_keeper.specs.declared.submit_all.GroupError.TheVariants.{Repeated, Keeper}
 use Rattle.td_keeper.specs.Keeping.{Keeping}
 
 -- whether a cut waits on after its write was refused so

@@ -7,8 +7,8 @@ ghost use Rattle.td_keeper.specs.Calls.{IsClosed, IsUnclosed, LeavesAtCrash, Lea
 use crate::keeper::Keeper;
 use td_calls::Law;
 use td_disk::{Disk, Fault};
-use td_store::group::close_free;
-use td_store::standing::{KeeperError, laws, ring_of};
+use td_store::group::{close_free, ring_of};
+use td_store::standing::{KeeperError, laws};
 
 impl<D: Disk, L: Law> Keeper<D, L> {
     /// Closes cells of the journal that no epoch uses, at most so many, those that come next, where one is open, with one sync for all; where

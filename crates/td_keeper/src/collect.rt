@@ -1,14 +1,15 @@
 //! Collecting outputs, and handing them out.
-ghost use Rattle.std.specs.Prelude.{◌≡◌, ◌⊎◌, ◌+◌, ◌∷◌, length, None, [], IfOk, IfErr, IfSome, IfNone, OnErr};
+ghost use Rattle.std.specs.Prelude.{◌≡◌, ◌⊎◌, ◌+◌, ◌∷◌, length, None, [], IfOk, IfErr, IfSome, IfNone, OnErr, ◌≤◌, ◌++◌};
 ghost use Rattle.td_machine.specs.Steps.{collect_step};
 ghost use Rattle.td_machine.specs.Reached.{IsReached};
 ghost use Rattle.td_machine.specs.Sound.{outs_by};
 ghost use Rattle.td_keeper.specs.Halls.{IsOwn, with_collected, collected_hall, meant_outs};
 ghost use Rattle.td_store.specs.declared.standing.error.KeeperError.TheVariants.{Foreign, Memory};
+ghost use Rattle.std.specs.VecDeque.{deque_len, deque_capacity};
 
 use crate::keeper::Keeper;
-use crate::queue::append;
-use crate::watch::{publish, words_at};
+use crate::progress::{publish, words_at};
+use std::collections::VecDeque;
 use td_batch::laws::run_joins;
 use td_calls::Law;
 use td_core::Hall;
@@ -88,5 +89,15 @@ impl<D: Disk, L: Law> Keeper<D, L> {
         ensures none_same { IfNone result (self.new ≡ self.old) }
     {
         self.queue.pop_front()
+    }
+}
+
+/// Puts what comes next at the end of a queue that has room for it.
+pub(crate) fn append<T: Drop>(queue: &mut VecDeque<T>, next: Vec<T>)
+    requires { deque_len queue.old + length next.items ≤ deque_capacity queue.old }
+    ensures { queue.new.items ≡ queue.old.items ++ next.items }
+{
+    for each in next {
+        queue.push_back_reserved(each);
     }
 }

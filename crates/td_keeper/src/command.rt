@@ -1,9 +1,9 @@
 //! What a keeper is told to do, and what it replies.
 ghost use Rattle.std.specs.Prelude.{◌≡◌};
-ghost use Rattle.td_keeper.specs.Driven.{submitted, submitted_as, submitted_all, released, settled, collected, cut, answered, written, closed};
+ghost use Rattle.td_keeper.specs.Driven.{submitted, submitted_as, released, settled, collected, cut, answered, written, closed};
 
-use crate::group::{Group, GroupError};
 use crate::receipt::Receipt;
+use crate::submit_all::{Group, GroupError};
 use td_questions::{Entries, Wanted};
 use td_stamp::{Batch, EpochOut};
 use td_store::standing::KeeperError;
@@ -102,16 +102,6 @@ impl Reply {
                 error,
                 batch: Some(batch),
             },
-        }
-    }
-
-    /// The reply to `SubmitAll`, of a group up to, and without, this epoch.
-    pub fn of_submit_all(outcome: Result<u64, (GroupError, Group)>, end: u64) -> Reply
-        ensures { result ≡ submitted_all end outcome }
-    {
-        match outcome {
-            Ok(first) => Reply::SubmittedAll(first, end),
-            Err((error, group)) => Reply::RefusedAll { error, group },
         }
     }
 

@@ -7,11 +7,11 @@ ghost use Rattle.td_core.specs.Drained.{IsKept};
 ghost use Rattle.td_keeper.specs.Driven.{Releases, Settles, Collects, Cuts, Asks, released, settled, collected, cut, answered};
 ghost use Rattle.td_store.specs.declared.standing.error.KeeperError.TheVariants.{Memory};
 
-use crate::group::{Group, GroupError};
 use crate::keeper::Keeper;
 use crate::laws::each_is_kept;
 use crate::obey::Obey;
 use crate::receipt::Receipt;
+use crate::submit_all::{Group, GroupError};
 use std::alloc::Global;
 use std::marker::Model;
 use td_batch::laws::run_joins;

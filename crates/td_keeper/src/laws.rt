@@ -3,7 +3,7 @@ ghost use Rattle.std.specs.Prelude.{◌≡◌, ◌≤◌, false, List, ℕ, All,
 ghost use Rattle.td_store.specs.standing.Standing.{Standing, last_epoch, last_request};
 ghost use Rattle.td_store.specs.standing.Told.{Told};
 ghost use Rattle.td_store.specs.standing.Read.{Stood};
-ghost use Rattle.td_journal.specs.declared.submitted.Submitted.{Submitted as AnySubmitted};
+ghost use Rattle.td_journal.specs.declared.payload.Submitted.{Submitted as AnySubmitted};
 ghost use Rattle.td_store.specs.standing.Stops.{Stands};
 ghost use Rattle.td_store.specs.standing.Advanced.{HeldWhere, states_by};
 ghost use Rattle.td_keeper.specs.Keeping.{Keeping, IsKeeping, EachKeepsTo, KeepsSince, KeepsToWhere};

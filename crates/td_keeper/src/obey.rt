@@ -5,7 +5,7 @@ ghost use Rattle.td_machine.specs.Active.{unpassed};
 ghost use Rattle.td_disk.specs.Calls.{KeepsDevice};
 ghost use Rattle.td_store.specs.standing.Standing.{last_epoch};
 ghost use Rattle.td_store.specs.declared.standing.error.KeeperError.TheVariants.{Device};
-ghost use Rattle.td_keeper.specs.declared.group.GroupError.TheVariants.{Keeper as ByKeeper};
+ghost use Rattle.td_keeper.specs.declared.submit_all.GroupError.TheVariants.{Keeper as ByKeeper};
 ghost use Rattle.td_keeper.specs.Calls.{outcome};
 ghost use Rattle.td_keeper.specs.Keeping.{Keeping, since_base};
 ghost use Rattle.td_keeper.specs.Halls.{IsDone, place_between};
@@ -13,9 +13,9 @@ ghost use Rattle.td_keeper.specs.declared.command.Command.TheVariants.{Submit, S
 ghost use Rattle.td_keeper.specs.declared.command.Reply.TheVariants.{Out};
 ghost use Rattle.td_keeper.specs.Driven.{Releases, Settles, Collects, HandsOut, Cuts, Asks, Obeys, submitted, submitted_as, submitted_all, released, settled, collected, cut, answered, written, closed};
 
-use crate::group::{Group, GroupError};
 use crate::keeper::Keeper;
 use crate::receipt::Receipt;
+use crate::submit_all::{Group, GroupError};
 use td_calls::Law;
 use td_disk::Disk;
 use td_questions::{Entries, Wanted};

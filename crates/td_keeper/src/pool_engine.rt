@@ -5,15 +5,15 @@ ghost use Rattle.td_store.specs.standing.Standing.{last_epoch, last_request, sub
 ghost use Rattle.td_store.specs.declared.standing.error.KeeperError.TheVariants.{Device};
 ghost use Rattle.td_keeper.specs.Calls.{LeavesAtCrash, outcome};
 ghost use Rattle.td_keeper.specs.Halls.{IsOwn};
-ghost use Rattle.td_keeper.specs.declared.group.GroupError.TheVariants.{Keeper as ByKeeper};
+ghost use Rattle.td_keeper.specs.declared.submit_all.GroupError.TheVariants.{Keeper as ByKeeper};
 ghost use Rattle.td_keeper.specs.declared.command.Command.TheVariants.{Submit, SubmitAs, SubmitAll, WriteCut, CloseFree};
 ghost use Rattle.td_keeper.specs.declared.command.Reply.TheVariants.{Out};
 ghost use Rattle.td_keeper.specs.Driven.{Releases, Settles, Collects, HandsOut, Cuts, Asks, Obeys, submitted, submitted_as, submitted_all, released, settled, collected, cut, answered, written, closed};
 
-use crate::group::{Group, GroupError};
 use crate::keeper::Keeper;
 use crate::laws::each_is_kept;
 use crate::receipt::Receipt;
+use crate::submit_all::{Group, GroupError};
 use std::marker::Model;
 use std::sync::Wait;
 use td_batch::laws::run_joins;

@@ -1,4 +1,4 @@
-//! Submitting groups of batches.
+//! Groups of batches, and submitting one at once.
 ghost use Rattle.std.specs.Prelude.{◌≡◌, ◌⊎◌, ◌↔◌, ◌+◌, ◌^◌, ◌<◌, ◌≤◌, [], length, false, true, Some, None, IfOk, IfErr, IfNone, IsTrue, OnOk};
 ghost use Rattle.td_disk.specs.Disk.{Rises};
 ghost use Rattle.td_gate.specs.CrashSafe.{CrashSafe, Unchanged};
@@ -10,26 +10,93 @@ ghost use Rattle.td_store.specs.standing.Standing.{last_epoch, last_request};
 ghost use Rattle.td_store.specs.standing.Told.{inputs_of};
 ghost use Rattle.td_store.specs.standing.Advanced.{SinceAdvance, AdvancesSince};
 ghost use Rattle.td_keeper.specs.Keeping.{with_epochs, KeepsSince};
+ghost use Rattle.td_keeper.specs.Driven.{submitted_all};
 ghost use Rattle.td_keeper.specs.Grouped.{AllOrNone};
 ghost use Rattle.td_keeper.specs.Refused.{has_number, all_accepted, all_few, group_refusal};
 ghost use Rattle.td_store.specs.declared.standing.error.KeeperError.TheVariants.{Memory, Device};
-ghost use Rattle.td_keeper.specs.declared.group.GroupError.TheVariants.{Keeper as ByKeeper};
+ghost use Rattle.td_keeper.specs.declared.submit_all.GroupError.TheVariants.{Keeper as ByKeeper};
 ghost use Rattle.td_disk.specs.Calls.{KeepsDevice};
 ghost use Rattle.td_keeper.specs.Calls.{IsAllSubmitted, IsRefused, LeavesAllOrNone, LeavesAtCrash, outcome};
 
-use crate::group::{Group, GroupError};
+use crate::collect::append;
+use crate::command::Reply;
 use crate::keeper::Keeper;
 use crate::laws::each_disk_holds;
-use crate::queue::append;
+use crate::progress::{publish, words_at};
 use crate::submit::NUMBERED;
-use crate::watch::{publish, words_at};
+use std::marker::Model;
 use td_calls::Law;
 use td_disk::Disk;
 use td_journal::{JournalError, Submitted, greatest_request};
 use td_plan::Plan;
 use td_stamp::{Batch, EPOCHS_END};
-use td_store::group::{NextCell, submit_group};
-use td_store::standing::{KeeperError, laws, ring_of};
+use td_store::group::{NextCell, ring_of, submit_group};
+use td_store::standing::{KeeperError, laws};
+use thiserror::Error;
+
+/// Batches that are submitted at once, each with its request number, 0 for none. Contracts see it as their list.
+#[derive(Debug, Drop)]
+pub struct Group {
+    submitted: Vec<Submitted>,
+}
+
+impl Model for Group {
+    ghost use Rattle.std.specs.Prelude.{List};
+    ghost use Rattle.td_journal.specs.declared.payload.Submitted.{Submitted};
+
+    ghost Value = { List Submitted };
+
+    ghost view = { λ g. g.submitted.items };
+}
+
+impl Group {
+    /// The group of these, in this order.
+    pub fn from_vec(submitted: Vec<Submitted>) -> Group
+        ensures { result ≡ submitted.items }
+    {
+        Group { submitted }
+    }
+
+    /// What is submitted, in order.
+    pub fn as_slice(&self) -> &[Submitted]
+        ensures { result.now ≡ self.now }
+    {
+        self.submitted.as_slice()
+    }
+
+    /// What is submitted, in order.
+    pub fn into_vec(self) -> Vec<Submitted>
+        ensures { result.items ≡ self }
+    {
+        self.submitted
+    }
+}
+
+/// Why a group was not submitted.
+///
+/// `submit_as` answers `Already` to a repeated number. Of a group the other batches would be lost with it, so the whole comes
+/// back.
+#[derive(Clone, Copy, Debug, PartialEq, Eq, Error)]
+pub enum GroupError {
+    /// A request number is not above all before it, on the disk and in the group.
+    #[error("a request number is repeated")]
+    Repeated,
+    /// The keeper refused a batch of it, or the call.
+    #[error("{0}")]
+    Keeper(KeeperError),
+}
+
+impl Reply {
+    /// The reply to `SubmitAll`, of a group up to, and without, this epoch.
+    pub fn of_submit_all(outcome: Result<u64, (GroupError, Group)>, end: u64) -> Reply
+        ensures { result ≡ submitted_all end outcome }
+    {
+        match outcome {
+            Ok(first) => Reply::SubmittedAll(first, end),
+            Err((error, group)) => Reply::RefusedAll { error, group },
+        }
+    }
+}
 
 impl<D: Disk, L: Law> Keeper<D, L> {
     /// Puts a group of batches on the journal at once, as the next epochs in this order, and answers the number of the first: from

@@ -11,7 +11,7 @@ ghost use Rattle.td_disk.specs.Calls.{KeepsDevice};
 ghost use Rattle.td_keeper.specs.Calls.{IsWritten, IsUnwritten, LeavesAtCrash};
 
 use crate::keeper::{Keeper, Taken};
-use crate::watch::{publish, words_at};
+use crate::progress::{publish, words_at};
 use std::collections::VecDeque;
 use td_calls::Law;
 use td_disk::Disk;

@@ -1,6 +1,6 @@
 -- Orders that say nothing of what was seen.
 use Rattle.std.proofs.Common.{◌≡◌, List, [], ◌∷◌, ◌++◌}
-use Rattle.td_journal.specs.declared.submitted.Submitted.{Submitted}
+use Rattle.td_journal.specs.declared.payload.Submitted.{Submitted}
 use Rattle.td_orders.specs.declared.order.Order.{Order}
 use Rattle.td_orders.specs.declared.order.Order.TheVariants as order
 use Rattle.td_orders.specs.Orders.{submissions}

@@ -2,7 +2,7 @@
 use Rattle.std.proofs.Common.{◌≡◌, ℕ, Bool, true, false, ◌&&◌, List, [], ◌∷◌, ◌++◌, refl, ap, ◌∙◌}
 use Rattle.std.specs.Prelude.{Some, None, max, if◌then◌else◌}
 use Rattle.td_journal.specs.Numbers.{greatest, may_come}
-use Rattle.td_journal.specs.declared.submitted.Submitted.{Submitted}
+use Rattle.td_journal.specs.declared.payload.Submitted.{Submitted}
 use Rattle.td_store.specs.group.Groups.{may_follow}
 use Rattle.td_store.specs.standing.Standing.{submission}
 use Rattle.td_orders.specs.declared.order.Order.{Order}

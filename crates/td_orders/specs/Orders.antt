@@ -10,7 +10,7 @@ use Rattle.td_plan.specs.Lines.{Line as PlanLine}
 use Rattle.td_plan.specs.Text.{text_lines, words, natural_of, number_of}
 use Rattle.td_plan.specs.Inputs.{is_input_of}
 use Rattle.td_head.specs.Layout.{Sizes, is_shape}
-use Rattle.td_journal.specs.declared.submitted.Submitted.{Submitted}
+use Rattle.td_journal.specs.declared.payload.Submitted.{Submitted}
 use Rattle.td_journal.specs.Numbers.{may_come}
 use Rattle.td_store.specs.standing.Standing.{submission}
 use Rattle.td_console.specs.declared.data_line.DataLine.TheVariants.{PassedOver, Record, Close}

@@ -1,10 +1,10 @@
 -- Epochs that name their places: compare and append.
 use Rattle.std.specs.Prelude.{ℕ, ◌≡◌, ◌+◌, ◌==◌, nat_lt, Bool, true, false, if◌then◌else◌, List, [], ◌∷◌, length, Option, Some, None}
-use Rattle.td_journal.specs.declared.submitted.Submitted.{Submitted}
+use Rattle.td_journal.specs.declared.payload.Submitted.{Submitted}
 use Rattle.td_journal.specs.Numbers.{greatest}
 use Rattle.td_orders.specs.declared.note.Note.TheVariants.{There, Gap}
-use Rattle.td_orders.specs.declared.at_once.Asked.{Asked}
-use Rattle.td_orders.specs.declared.at_once.Asked.TheVariants.{One}
+use Rattle.td_orders.specs.declared.asking.Asked.{Asked}
+use Rattle.td_orders.specs.declared.asking.Asked.TheVariants.{One}
 use Rattle.td_orders.specs.declared.order.Order.{Order}
 use Rattle.td_orders.specs.declared.order.Order.TheVariants.{SubmitAt, Say}
 use Rattle.td_orders.specs.Orders.{submissions, new_after}

@@ -8,7 +8,7 @@ use Rattle.td_console.specs.declared.faults.LineFault.TheVariants.{Syntax, NotCl
 use Rattle.td_console.specs.declared.faults.Fault.{Fault}
 use Rattle.td_console.specs.declared.faults.Fault.TheVariants.{Input, Line, Memory, Keeper}
 use Rattle.td_store.specs.declared.standing.error.KeeperError.TheVariants.{TooManyRecords}
-use Rattle.td_journal.specs.declared.submitted.Submitted.{Submitted}
+use Rattle.td_journal.specs.declared.payload.Submitted.{Submitted}
 use Rattle.td_store.specs.group.Groups.{may_follow}
 use Rattle.td_journal.specs.Numbers.{may_come}
 use Rattle.td_orders.specs.declared.note.Flaw.{Flaw}
@@ -20,10 +20,10 @@ use Rattle.td_orders.specs.declared.order.FeedLine.TheVariants.{Data, Request}
 use Rattle.td_orders.specs.declared.order.Order.{Order}
 use Rattle.td_orders.specs.declared.order.Order.TheVariants as order
 use Rattle.td_orders.specs.declared.reading.Reading.{Reading as AnyReading}
-use Rattle.td_orders.specs.declared.at_once.Asked.{Asked}
-use Rattle.td_orders.specs.declared.at_once.Room.{Room}
+use Rattle.td_orders.specs.declared.asking.Asked.{Asked}
+use Rattle.td_orders.specs.declared.asking.Room.{Room}
 use Rattle.td_store.specs.standing.Standing.{submission}
-use Rattle.td_orders.specs.declared.at_once.Asked.TheVariants.{One, Epochs}
+use Rattle.td_orders.specs.declared.asking.Asked.TheVariants.{One, Epochs}
 use Rattle.td_orders.specs.Noted.{Aside, flaw_of, cause_in}
 use Rattle.td_orders.specs.Orders.{Orders, no_orders, numbered, is_between, service_line_of, with_line, with_order, submissions, notes_in}
 

@@ -1,23 +1,26 @@
-//! Where the orders of a feed come from, one after another.
+//! Where the orders of a feed come from, and what is asked for at once, as much as a keeper takes.
 //!
 //! A stream is a feed whose orders come from a reader, at a pace. One loop obeys both, and clauses speak of the script that is
 //! left, where it is known. A fault of a line that was read ahead waits until the epochs before it are on the disk and their
 //! lines are written.
 //!
-//! An epoch that names its place is compared with the disk when it is asked for, after those before it. So it goes alone.
+//! A feed has its epochs up to the next `cut` at once, and a stream those that stand whole in what the input has given. A group
+//! ends before an epoch that would be refused or repeated. That one goes alone, so a refusal and an `again Q` come after all that
+//! was acknowledged. So does an epoch that names its place: it is compared with the disk when it is asked for, after those before.
 //!
 //! A line and an open epoch have limits here, since a producer that closes neither would fill the memory. An epoch whose request
 //! number is on the disk already has no limit, since it is not put there again.
-ghost use Rattle.std.specs.Prelude.{◌≡◌, ◌==◌, ◌⊎◌, ◌+◌, ◌<◌, ◌≤◌, ◌++◌, ℕ, Bool, List, [], Option, Some, None, true, false, length, option_map, OnOk, IfOk, IfErr, IfSome, IfNone};
+ghost use Rattle.std.specs.Prelude.{◌≡◌, ◌==◌, ◌⊎◌, ◌+◌, ◌<◌, ◌≤◌, ◌++◌, ℕ, Bool, List, [], Option, Some, None, true, false, length, option_map, OnOk, IfOk, IfErr, IfSome, IfNone, ◌∷◌, IsTrue};
 ghost use Rattle.td_store.specs.group.Groups.{may_follow};
 ghost use Rattle.td_orders.specs.declared.order.Order.{Order as AnyOrder};
-ghost use Rattle.td_orders.specs.declared.at_once.Asked.TheVariants.{One};
+ghost use Rattle.td_orders.specs.declared.asking.Asked.TheVariants.{One};
 ghost use Rattle.td_orders.specs.Lines.{has_overlong, LosesLines};
 ghost use Rattle.td_orders.specs.Orders.{is_between, submissions, notes_in};
-ghost use Rattle.td_orders.specs.Scripts.{Script, script_left, script_of, script_in, place, SameScript, is_given, HaveNoPlace, SeeNothing, Asks, IsOf, FitsRoom, AllFit, TellsLine, ComesTo, fault_at_end, may_end, is_of_lines, is_of_reader};
+ghost use Rattle.td_orders.specs.Scripts.{Script, script_left, script_of, script_in, place, SameScript, is_given, HaveNoPlace, SeeNothing, Asks, IsOf, FitsRoom, AllFit, TellsLine, ComesTo, fault_at_end, may_end, is_of_lines, is_of_reader, FitsOne, IsNext};
 ghost use Rattle.td_orders.specs.Placed.{StandsAt, IsGapAt, at_disk, gap_at, not_in_place, placed, told_by, last_by};
+ghost use Rattle.td_journal.specs.Numbers.{may_come};
+ghost use Rattle.td_store.specs.standing.Standing.{last_epoch, last_request};
 
-use crate::at_once::{Asked, Room, take_fitting};
 use crate::line_reader::Lines;
 use crate::note::Note;
 use crate::order::{Order, Place};
@@ -333,5 +336,102 @@ impl<'a, I: Source> Asking for Streamed<'a, I> {
         self.read_ahead(alloc, room)?;
         let asked = take_asked(alloc, &mut self.ahead, room);
         asked_at_disk(asked, self.refuses, room)
+    }
+}
+
+/// What is asked for at once.
+#[derive(Debug, Drop)]
+pub enum Asked {
+    /// One order.
+    One(Order),
+    /// Epochs that are put on the disk as a group.
+    Epochs(Vec<Submitted>),
+}
+
+impl Asked {
+    /// How many epochs it submits, or 1.
+    pub fn epochs(&self) -> u64 {
+        match self {
+            Asked::One(_) => 1,
+            Asked::Epochs(group) => group.len() as u64,
+        }
+    }
+}
+
+/// How much a disk takes at once, after what it has.
+#[derive(Clone, Copy, Debug, Drop)]
+pub struct Room {
+    /// The last epoch so far.
+    pub told: u64,
+    /// The greatest request number so far, 0 for none.
+    pub last: u64,
+    /// Whether its format has request numbers.
+    pub is_numbered: bool,
+    /// How many epochs a group may have.
+    pub epochs: u64,
+    /// How many records an epoch may have.
+    pub records: usize,
+}
+
+impl Room {
+    /// Whether an epoch with this request number, 0 for none, would be put on the disk next: it is no repetition, and the disk has
+    /// request numbers if it has one.
+    fn takes_number(&self, request: u64) -> bool {
+        request == 0 || self.is_numbered && self.last < request
+    }
+
+    /// Whether an epoch with this place, if it has one, and this request number, 0 for none, may be put on the disk, next or after others:
+    /// it is no repetition, and the disk has no epoch at its place.
+    pub(crate) fn takes(&self, place: Option<Place>, request: u64) -> bool {
+        match place {
+            Some(place) => self.told < place.epoch && self.takes_number(request),
+            None => self.takes_number(request),
+        }
+    }
+
+    /// Whether an order submits an epoch that finds room, after this greatest request number.
+    fn fits(&self, order: &Order, last: u64) -> bool
+        ensures { IsTrue result → IsNext self.now last order.now }
+    {
+        match order {
+            Order::Submit(batch) => batch.len() <= self.records,
+            Order::SubmitAs(request, batch) => {
+                self.is_numbered && last < *request && batch.len() <= self.records
+            }
+            Order::SubmitAt(..)
+            | Order::Cut
+            | Order::Say(_)
+            | Order::Seen { .. }
+            | Order::Answer { .. }
+            | Order::Copy(_) => false,
+        }
+    }
+}
+
+/// Takes the first order, where it submits an epoch that finds room after this greatest request number.
+pub(crate) fn take_fitting(
+    orders: &mut VecDeque<Order>,
+    room: &Room,
+    last: u64,
+) -> Option<Submitted>
+    ensures some { IfSome result (λ s. (order : AnyOrder) × (orders.old.items ≡ order ∷ orders.new.items)
+        × (submissions (order ∷ []) ≡ s ∷ []) × (notes_in (order ∷ []) ≡ []) × (may_come (Some last) s.request ≡ true) × HaveNoPlace (order ∷ []) × FitsOne room.now s) }
+    ensures none { IfNone result (orders.new ≡ orders.old) }
+{
+    if !room.fits(orders.front()?, last) {
+        return None;
+    }
+    match orders.pop_front() {
+        Some(Order::Submit(batch)) => Some(Submitted { request: 0, batch }),
+        Some(Order::SubmitAs(request, batch)) => Some(Submitted { request, batch }),
+        Some(
+            Order::SubmitAt(..)
+            | Order::Cut
+            | Order::Say(_)
+            | Order::Seen { .. }
+            | Order::Answer { .. }
+            | Order::Copy(_),
+        )
+        | None => unreachable!(),
     }
 }

@@ -7,7 +7,6 @@
 #![tactic(auto)]
 
 mod asking;
-mod at_once;
 mod excerpt;
 mod file_name;
 pub mod laws;
@@ -16,8 +15,7 @@ mod note;
 mod order;
 mod reading;
 
-pub use asking::{Asking, Listed, Streamed};
-pub use at_once::{Asked, Room};
+pub use asking::{Asked, Asking, Listed, Room, Streamed};
 pub use excerpt::Excerpt;
 pub use file_name::FileName;
 pub use note::{Cause, Flaw, Note, write_note};

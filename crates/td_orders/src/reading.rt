@@ -8,7 +8,7 @@ ghost use Rattle.td_orders.specs.Noted.{flaw_of, cause_in};
 ghost use Rattle.td_orders.specs.Lines.{line_in};
 ghost use Rattle.td_orders.specs.Scripts.{place, at_start, with_said, judged, passed_over, first_number, refused, unless_refused, is_over, may_end, Completes, FaultOfNext, is_of_lines};
 
-use crate::at_once::Room;
+use crate::asking::Room;
 use crate::excerpt::cause_of;
 use crate::line_reader::line_in;
 use crate::note::{Cause, Flaw, Note};

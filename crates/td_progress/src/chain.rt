@@ -1,15 +1,17 @@
-//! The active pointstamps of one place and counters.
-ghost use Rattle.std.specs.Prelude.{◌≡◌, ◌+◌, ◌-◌, ◌^◌, ◌<◌, ◌≤◌, ◌↔◌};
-ghost use Rattle.std.specs.Prelude.{true, false, IsTrue, OnOk, OnErr, Some, [], length, is_none, nat_lt};
+//! The active pointstamps of one place and counters; and the frontier, one pointstamp after another.
+ghost use Rattle.std.specs.Prelude.{◌≡◌, ◌+◌, ◌-◌, ◌^◌, ◌<◌, ◌≤◌, ◌↔◌, true, false, IsTrue, OnOk, OnErr, Some, [], length, is_none, nat_lt};
 ghost use Rattle.std.specs.List.{list_all};
-ghost use Rattle.td_progress.specs.Gaps.{within, sum_to, first_from, start_of, changed_from, changed_at, place};
-ghost use Rattle.td_progress.specs.Gaps.{has_epoch, count_to, with_epoch, without_epoch, times_at, timed, plus, minus};
+ghost use Rattle.td_progress.specs.Gaps.{within, sum_to, first_from, start_of, changed_from, changed_at, place, has_epoch, count_to, with_epoch, without_epoch, times_at, timed, plus, minus};
 ghost use Rattle.td_progress.specs.Cells.{gaps_of};
-ghost use Rattle.td_progress.specs.Held.{stepped, first_alone};
+ghost use Rattle.td_progress.specs.Held.{stepped, first_alone, firsts};
+ghost use Rattle.std.specs.Iterator.{at_most, YieldsFirst};
 
+use indexmap::IndexMap;
+use indexmap::map::Iter;
 use std::alloc::{AllocError, Global};
 use std::collections::VecDeque;
 use std::marker::Model;
+use td_reach::Stamp;
 
 /// By how much a gap changes.
 #[derive(Clone, Copy, Debug, PartialEq, Eq)]
@@ -280,5 +282,52 @@ fn lower(cells: &mut VecDeque<Cell>, place: usize, by: u64)
 {
     if let Some(cell) = cells.get_mut(place) {
         cell.gap = cell.gap.saturating_sub(by);
+    }
+}
+
+/// An iterator over the active pointstamps that no other active one could result in, each once. Contracts see those that are left.
+#[derive(Drop)]
+pub struct FrontierStamps<'a> {
+    chains: Iter<'a, Stamp, Chain>,
+}
+
+impl<'a> Model for FrontierStamps<'a> {
+    ghost use Rattle.std.specs.Prelude.{List};
+    ghost use Rattle.td_reach.specs.declared.stamp.Stamp.{Stamp};
+    ghost use Rattle.td_progress.specs.Held.{firsts};
+
+    ghost Value = { List Stamp };
+
+    ghost view = { λ f. firsts f.chains };
+}
+
+impl<'a> FrontierStamps<'a> {
+    /// The first of each place and counters, where it has nothing but itself in its gap.
+    pub(crate) fn of(chains: &'a IndexMap<Stamp, Chain>) -> FrontierStamps<'a>
+        ensures { result ≡ firsts chains.now.entries }
+    {
+        FrontierStamps {
+            chains: chains.iter(),
+        }
+    }
+}
+
+impl<'a> Iterator for FrontierStamps<'a> {
+    type Item = Stamp;
+
+    ghost next_gives = { YieldsFirst (λ s. s) };
+
+    ghost remaining = { λ s. at_most (length s) };
+
+    fn next(&mut self) -> Option<Stamp> {
+        loop {
+            let (class, chain) = self.chains.next()?;
+            if let Some(epoch) = chain.first_alone() {
+                return Some(Stamp {
+                    time: class.time.at(epoch),
+                    place: class.place,
+                });
+            }
+        }
     }
 }

@@ -17,8 +17,7 @@ ghost use Rattle.td_progress.specs.Held.{IsOfPlan, IsLaidOut, IsPosition, gaps_a
 ghost use Rattle.td_progress.specs.Ways.{places_of, number_of, row};
 ghost use Rattle.td_progress.specs.declared.ways.Side.TheVariants as Side;
 
-use crate::chain::{Chain, Step};
-use crate::frontier::FrontierStamps;
+use crate::chain::{Chain, FrontierStamps, Step};
 use crate::laws::in_no_loop;
 use crate::ways::{Side, Ways};
 use indexmap::IndexMap;

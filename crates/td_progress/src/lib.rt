@@ -10,12 +10,11 @@
 
 mod chain;
 mod error;
-mod frontier;
 mod held;
 pub mod laws;
 mod table;
 mod ways;
 
+pub use chain::FrontierStamps;
 pub use error::ProgressError;
-pub use frontier::FrontierStamps;
 pub use table::Table;

@@ -7,8 +7,8 @@ ghost use Rattle.td_reach.specs.Paths.{IsOf};
 ghost use Rattle.td_reach.specs.Frontier.{Frontier, Precursors, has_passed};
 ghost use Rattle.td_progress.specs.Bag.{is_stamp, occurrences, IsSameBag, input_stamp};
 
+use crate::chain::FrontierStamps;
 use crate::error::ProgressError;
-use crate::frontier::FrontierStamps;
 use crate::held::Held;
 use crate::ways::Ways;
 use std::alloc::Global;

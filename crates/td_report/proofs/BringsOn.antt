@@ -7,7 +7,7 @@ use Rattle.std.proofs.lemmas.List.{take-append-drop}
 use Rattle.td_stamp.specs.declared.values.Entry.{Entry}
 use Rattle.td_stamp.specs.States.{StateList}
 use Rattle.td_plan.specs.Lines.{Line as PlanLine}
-use Rattle.td_journal.specs.declared.submitted.Submitted.{Submitted}
+use Rattle.td_journal.specs.declared.payload.Submitted.{Submitted}
 use Rattle.td_journal.specs.Numbers.{greatest, may_come}
 use Rattle.td_store.specs.standing.Standing.{Standing}
 use Rattle.td_store.specs.standing.Stops.{Stands}

@@ -17,7 +17,7 @@ use Rattle.td_stamp.specs.Bag.{IsBag}
 use Rattle.td_plan.specs.Lines.{Line as PlanLine}
 use Rattle.td_plan.specs.Text.{text_lines, words, number_of, is_printable, is_comment}
 use Rattle.td_plan.specs.Inputs.{is_input_of}
-use Rattle.td_journal.specs.declared.submitted.Submitted.{Submitted}
+use Rattle.td_journal.specs.declared.payload.Submitted.{Submitted}
 use Rattle.td_journal.specs.Numbers.{greatest, may_come, rise}
 use Rattle.td_journal.specs.Cell.{is_batch}
 use Rattle.td_head.specs.Layout.{Sizes}

@@ -2,8 +2,8 @@
 use Rattle.std.proofs.Common.{◌≡◌, ℕ, ◌+◌, max, List, [], ◌∷◌, ◌++◌, map, length, refl, sym, ap, ◌∙◌}
 use Rattle.std.proofs.lemmas.List.{length-map}
 use Rattle.td_slots.specs.declared.slots.Checkpoint.{Checkpoint}
-use Rattle.td_journal.specs.declared.submitted.Submitted.{Submitted}
-use Rattle.td_journal.specs.declared.submitted.Counts.{Counts}
+use Rattle.td_journal.specs.declared.payload.Submitted.{Submitted}
+use Rattle.td_journal.specs.declared.payload.Counts.{Counts}
 use Rattle.td_journal.specs.Counts.{counts_of, greatest_counted}
 use Rattle.td_journal.specs.Numbers.{greatest}
 use Rattle.td_store.specs.standing.Standing.{standing_from}

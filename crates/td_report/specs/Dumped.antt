@@ -7,7 +7,7 @@ use Rattle.td_stamp.specs.declared.values.Entry.{Entry}
 use Rattle.td_plan.specs.Lines.{Line as PlanLine}
 use Rattle.td_disk.specs.Disk.{DiskView, DiskState}
 use Rattle.td_gate.specs.Reading.{Each}
-use Rattle.td_journal.specs.declared.submitted.Submitted.{Submitted}
+use Rattle.td_journal.specs.declared.payload.Submitted.{Submitted}
 use Rattle.td_head.specs.declared.head.Head.{Head}
 use Rattle.td_head.specs.Layout.{Sizes}
 use Rattle.td_store.specs.standing.Standing.{Standing, last_epoch, last_request}

@@ -7,8 +7,8 @@ use Rattle.td_stamp.specs.States.{StateList}
 use Rattle.td_plan.specs.Lines.{Line}
 use Rattle.td_disk.specs.Disk.{DiskView, IsDurable, Rises}
 use Rattle.td_slots.specs.declared.slots.Checkpoint.{Checkpoint}
-use Rattle.td_journal.specs.declared.submitted.Submitted.{Submitted}
-use Rattle.td_journal.specs.declared.submitted.Counts.{Counts}
+use Rattle.td_journal.specs.declared.payload.Submitted.{Submitted}
+use Rattle.td_journal.specs.declared.payload.Counts.{Counts}
 use Rattle.td_journal.specs.Counts.{greatest_counted}
 use Rattle.td_store.specs.standing.Standing.{Standing, last_epoch, last_request}
 use Rattle.td_store.specs.standing.Told.{Told}

@@ -6,7 +6,7 @@ ghost use Rattle.td_stamp.specs.States.{StateList};
 ghost use Rattle.td_plan.specs.Lines.{Line};
 ghost use Rattle.td_plan.specs.Faults.{IsPlan};
 ghost use Rattle.td_head.specs.declared.head.Head.{Head as AnyHead};
-ghost use Rattle.td_journal.specs.declared.submitted.Submitted.{Submitted as AnySubmitted};
+ghost use Rattle.td_journal.specs.declared.payload.Submitted.{Submitted as AnySubmitted};
 ghost use Rattle.td_journal.specs.Numbers.{greatest};
 ghost use Rattle.td_store.specs.standing.Standing.{Standing};
 ghost use Rattle.td_store.specs.standing.Stops.{Stands};

@@ -3,8 +3,8 @@ use Rattle.std.proofs.Common.{◌≡◌, ℕ, ◌+◌, ◌<◌, Bool, true, fals
 use Rattle.std.specs.Option.{option_map}
 use Rattle.std.specs.Cmp.{IsEquivalence}
 use Rattle.std.proofs.lemmas.Bool.{eqb-true, eq-eqb}
-use Rattle.td_shard.specs.declared.rows.Numbered.{Numbered}
-use Rattle.td_shard.specs.declared.lane.Lane.{Lane}
+use Rattle.td_shard.specs.declared.runs.Numbered.{Numbered}
+use Rattle.td_shard.specs.declared.runs.Lane.{Lane}
 use Rattle.td_shard.specs.Runs.{Part, on_lane, all_of, ahead_of, last_by, first_on, last_on, AreLinked, AreNumbered}
 use Rattle.td_shard.specs.Messages.{same_edge}
 use Rattle.td_shard.specs.Order.{AreAscending}

@@ -13,7 +13,7 @@ use Rattle.std.specs.declared.cmp.Ordering.TheVariants.{Less, Equal, Greater}
 use Rattle.td_stamp.specs.Orders.{state_key_cmp}
 use Rattle.td_stamp.specs.Bag.{bag_insert}
 use Rattle.td_stamp.specs.Rises.{Rises}
-use Rattle.td_shard.specs.declared.version.Version.{Version}
+use Rattle.td_shard.specs.declared.versions.Version.{Version}
 use Rattle.td_shard.specs.Versions.{VersionList, AreVersions, AreKept, version_cmp}
 use Rattle.td_shard.proofs.LeftOrders.{version_total}
 use Rattle.td_shard.proofs.Rising.{rises-filter, rises-inserted}

@@ -16,7 +16,7 @@ use Rattle.td_stamp.specs.ProvedOrders.{state_key_apart}
 use Rattle.td_stamp.specs.States.{StateList, state_of, AreStates}
 use Rattle.td_machine.specs.declared.records.StateLeft.{StateLeft}
 use Rattle.td_machine.specs.State.{with_left}
-use Rattle.td_shard.specs.declared.version.Version.{Version}
+use Rattle.td_shard.specs.declared.versions.Version.{Version}
 use Rattle.td_shard.specs.After.{states_after, entries_at, places_of, AreFound}
 use Rattle.td_shard.specs.Versions.{IsLatestAt}
 use Rattle.td_shard.proofs.KeptStates.{InOrder, left_keeps, states_in_order, same_states}

@@ -3,8 +3,8 @@ use Rattle.std.proofs.Common.{◌≡◌, ℕ, zero, suc, ◌+◌, ◌-◌, ◌<�
 use Rattle.std.specs.List.{AllByRecursion}
 use Rattle.std.proofs.lemmas.List.{map-append}
 use Rattle.td_stamp.specs.declared.values.Rec.{Rec}
-use Rattle.td_shard.specs.declared.lane.Lane.{Lane}
-use Rattle.td_shard.specs.declared.rows.Numbered.{Numbered}
+use Rattle.td_shard.specs.declared.runs.Lane.{Lane}
+use Rattle.td_shard.specs.declared.runs.Numbered.{Numbered}
 use Rattle.td_shard.specs.Runs.{Part, Parts, its, all_of, on_lane, numbered, lane_eq, last_on, AreLinked, FrontWaits, AreAppended, IsUpTo, AreUpTo, IsOlder, AreOlder, AreGrouped, changed_at, with_more}
 use Rattle.td_shard.proofs.InOneList.{length-numbered}
 use Rattle.td_shard.proofs.TakenUp.{linked-changed_at, last-changed_at}

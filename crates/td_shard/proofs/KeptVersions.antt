@@ -17,7 +17,7 @@ use Rattle.td_stamp.specs.Orders.{state_key_cmp}
 use Rattle.td_stamp.specs.Bag.{bag_insert, bag_remove, join}
 use Rattle.td_stamp.specs.BagLaws.{BagLaws}
 use Rattle.td_machine.specs.State.{left_cmp}
-use Rattle.td_shard.specs.declared.version.Version.{Version}
+use Rattle.td_shard.specs.declared.versions.Version.{Version}
 use Rattle.td_shard.specs.Versions.{VersionList, left_of, left_in, version_cmp}
 use Rattle.td_shard.proofs.Viewed.{seen, lookup-seen, set-seen, remove-seen, keys-seen}
 use Rattle.td_shard.proofs.LeftBags.{left_in-more, left_in-moved, left_in-filter, left_in-not, left_in-out, left_in-emptied}

@@ -11,7 +11,7 @@ use Rattle.td_stamp.specs.BagLaws.{BagLaws}
 use Rattle.td_stamp.specs.States.{same_place, state_of}
 use Rattle.td_machine.specs.declared.records.StateLeft.{StateLeft}
 use Rattle.td_machine.specs.State.{left_cmp, with_left}
-use Rattle.td_shard.specs.declared.version.Version.{Version}
+use Rattle.td_shard.specs.declared.versions.Version.{Version}
 use Rattle.td_shard.specs.Versions.{left_in, latest, up_to, version_or, IsLatestAt}
 use Rattle.td_shard.proofs.Viewed.{seen, lookup-seen, keys-seen}
 use Rattle.td_shard.proofs.LeftBags.{found_by_order}

@@ -18,7 +18,7 @@ use Rattle.td_stamp.specs.Bag.{bag_insert, bag_remove, join, has, IsBag}
 use Rattle.td_stamp.specs.BagLaws.{BagLaws}
 use Rattle.td_machine.specs.declared.records.StateLeft.{StateLeft}
 use Rattle.td_machine.specs.State.{left_cmp}
-use Rattle.td_shard.specs.declared.version.Version.{Version}
+use Rattle.td_shard.specs.declared.versions.Version.{Version}
 use Rattle.td_shard.specs.Versions.{VersionList, left_of, left_in, version_cmp, taken_back}
 use Rattle.td_stamp.specs.ProvedOrders.{state_key_apart, places_tied}
 use Rattle.td_shard.proofs.LeftOrders.{left_apart, left_of-cmp, places_tie}

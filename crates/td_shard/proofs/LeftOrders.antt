@@ -10,7 +10,7 @@ use Rattle.std.specs.FinMap.{IsAntisymmetric, nat_cmp-IsAntisymmetric, int_cmp-I
 use Rattle.td_stamp.specs.ProvedOrders.{both_tie}
 use Rattle.td_stamp.specs.Orders.{state_key_cmp}
 use Rattle.td_machine.specs.State.{state_cmp, left_cmp}
-use Rattle.td_shard.specs.declared.version.Version.{Version}
+use Rattle.td_shard.specs.declared.versions.Version.{Version}
 use Rattle.td_shard.specs.Versions.{left_of, version_cmp}
 
 state_total : IsTotalOrder state_cmp

@@ -17,7 +17,7 @@ use Rattle.td_stamp.specs.States.{StateList, state_of, AreStates}
 use Rattle.td_batch.specs.Meaning.{with_kept}
 use Rattle.td_machine.specs.declared.records.StateLeft.{StateLeft}
 use Rattle.td_machine.specs.State.{left_cmp, with_left}
-use Rattle.td_shard.specs.declared.version.Version.{Version}
+use Rattle.td_shard.specs.declared.versions.Version.{Version}
 use Rattle.td_shard.specs.Versions.{VersionList, left_of, left_in, version_cmp, later, latest, up_to, version_or, with_version, with_latest}
 use Rattle.td_stamp.specs.ProvedOrders.{state_key_apart}
 use Rattle.td_shard.proofs.LeftOrders.{left_total, left_of-cmp}

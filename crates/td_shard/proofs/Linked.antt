@@ -3,7 +3,7 @@ use Rattle.std.proofs.Common.{◌≡◌, ℕ, zero, suc, ◌+◌, ◌<◌, ◌�
 use Rattle.std.specs.Option.{option_map}
 use Rattle.std.specs.List.{AllByRecursion}
 use Rattle.std.specs.Cmp.{IsEquivalence}
-use Rattle.td_shard.specs.declared.lane.Lane.{Lane}
+use Rattle.td_shard.specs.declared.runs.Lane.{Lane}
 use Rattle.td_shard.specs.Runs.{Part, its, all_of, changed_at, linked_to, ahead_of, last_by, FrontWaits, IsUpTo, AreUpTo, IsOlder, AreOlder, AreGrouped, first_on, last_on, AreLinked}
 
 -- the runs with that at a place linked to one that comes behind the last

@@ -3,7 +3,7 @@ use Rattle.std.proofs.Common.{◌≡◌, ℕ, zero, suc, ◌+◌, ◌-◌, ◌<�
 use Rattle.std.proofs.lemmas.List.{take_all, drop_min, map-append, length-map}
 use Rattle.std.specs.List.{remove}
 use Rattle.td_stamp.specs.declared.values.Rec.{Rec}
-use Rattle.td_shard.specs.declared.rows.Numbered.{Numbered}
+use Rattle.td_shard.specs.declared.runs.Numbered.{Numbered}
 use Rattle.td_shard.specs.Runs.{rec_of, Part, FrontWaits, changed_at, without_front, without_at, with_first}
 use Rattle.td_shard.proofs.Ordered.{length-brought}
 use Rattle.td_shard.proofs.TakenUp.{take-append, still, changed_at-here}

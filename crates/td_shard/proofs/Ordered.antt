@@ -2,7 +2,7 @@
 use Rattle.std.proofs.Common.{◌≡◌, ℕ, zero, suc, ◌+◌, ◌-◌, ◌<◌, ◌≤◌, ◌⊎◌, inl, inr, min, List, [], ◌∷◌, ◌++◌, map, length, get_or, set, take, drop, refl, sym, ap, ◌∙◌, subst, arith, append_assoc, length-take, length-drop, length-append}
 use Rattle.std.proofs.lemmas.List.{drop-take, take-take, drop-drop, take_all, take_at, drop_at, take-append-le, drop-append-le, take-append-drop, length-take-le, map_push}
 use Rattle.std.specs.List.{remove}
-use Rattle.td_shard.specs.declared.rows.Numbered.{Numbered}
+use Rattle.td_shard.specs.declared.runs.Numbered.{Numbered}
 use Rattle.td_shard.specs.declared.runs.Run.{Run}
 use Rattle.td_shard.specs.Runs.{Part, part, InOrder, changed_at, without_front, with_more}
 

@@ -6,7 +6,7 @@ use Rattle.td_stamp.specs.Bag.{bag_insert, bag_of}
 use Rattle.td_stamp.specs.BagLaws.{BagLaws}
 use Rattle.td_machine.specs.declared.records.Message.{Message}
 use Rattle.td_machine.specs.Steps.{task_size}
-use Rattle.td_shard.specs.declared.lane.Lane.{Lane}
+use Rattle.td_shard.specs.declared.runs.Lane.{Lane}
 use Rattle.td_shard.specs.Messages.{IsBeside, same_edge, without_first, task_by, task_at}
 use Rattle.td_shard.specs.Runs.{lane_eq}
 use Rattle.td_shard.proofs.Lanes.{lane_equiv, lane_eq-sound}

@@ -4,8 +4,8 @@ use Rattle.std.specs.List.{AllByRecursion}
 use Rattle.std.proofs.lemmas.Bool.Decides.{nat_tests}
 use Rattle.std.proofs.lemmas.List.{length-map}
 use Rattle.td_machine.specs.declared.records.Message.{Message}
-use Rattle.td_shard.specs.declared.lane.Lane.{Lane}
-use Rattle.td_shard.specs.declared.rows.Numbered.{Numbered}
+use Rattle.td_shard.specs.declared.runs.Lane.{Lane}
+use Rattle.td_shard.specs.declared.runs.Numbered.{Numbered}
 use Rattle.td_shard.specs.Order.{at_number, few, AreAscending}
 use Rattle.td_shard.specs.Runs.{Part, message, on_lane, its, all_of, rank, FrontWaits, IsUpTo, IsOlder, AreGrouped}
 use Rattle.td_shard.proofs.Numbers.{AreBelow, AreFrom, all_append, is_equal, is_other, at_append, none_at, few_append, few_all, few_from, from_earlier}

@@ -4,8 +4,8 @@ use Rattle.std.proofs.lemmas.List.{get_or-drop, take-append-drop, drop-drop, dro
 use Rattle.std.proofs.Math.Seq.{take-add}
 use Rattle.std.specs.Option.{option_map, IsSome}
 use Rattle.std.specs.Cmp.{IsEquivalence}
-use Rattle.td_shard.specs.declared.rows.Numbered.{Numbered}
-use Rattle.td_shard.specs.declared.lane.Lane.{Lane}
+use Rattle.td_shard.specs.declared.runs.Numbered.{Numbered}
+use Rattle.td_shard.specs.declared.runs.Lane.{Lane}
 use Rattle.td_shard.specs.Runs.{Part, its, all_of, changed_at, without_front, ahead_of, last_by, first_on, last_on, AreLinked, taken_on, lane_recs}
 
 -- any run

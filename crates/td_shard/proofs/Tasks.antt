@@ -6,8 +6,8 @@ use Rattle.std.proofs.lemmas.Bool.Decides.{nat_tests}
 use Rattle.std.proofs.lemmas.List.{take-map, map-append}
 use Rattle.std.proofs.lemmas.List.Elements.{filter-append}
 use Rattle.td_stamp.specs.declared.values.Rec.{Rec}
-use Rattle.td_shard.specs.declared.lane.Lane.{Lane}
-use Rattle.td_shard.specs.declared.rows.Numbered.{Numbered}
+use Rattle.td_shard.specs.declared.runs.Lane.{Lane}
+use Rattle.td_shard.specs.declared.runs.Numbered.{Numbered}
 use Rattle.td_machine.specs.declared.records.Message.{Message}
 use Rattle.td_shard.specs.Messages.{same_edge, without_first, task_by, left_by, task_at, left_at}
 use Rattle.td_shard.specs.Order.{at_number, below, few, AreAscending}

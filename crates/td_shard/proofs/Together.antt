@@ -8,9 +8,9 @@ use Rattle.std.proofs.lemmas.Grind.{flat_map-append}
 use Rattle.td_stamp.specs.declared.values.Rec.{Rec}
 use Rattle.td_stamp.specs.Time.{Timestamp}
 use Rattle.td_machine.specs.declared.records.Message.{Message}
-use Rattle.td_shard.specs.declared.lane.Lane.{Lane}
+use Rattle.td_shard.specs.declared.runs.Lane.{Lane}
 use Rattle.td_shard.specs.declared.outlet.Outlet.{Outlet}
-use Rattle.td_shard.specs.declared.rows.Numbered.{Numbered}
+use Rattle.td_shard.specs.declared.runs.Numbered.{Numbered}
 use Rattle.td_shard.specs.Messages.{on_outlet, on_each, same_edge, AreApart}
 use Rattle.td_shard.specs.Order.{at_number, below, AreAscending}
 use Rattle.td_shard.specs.Runs.{Part, Parts, message, messages_of, all_of, on_lane, lane_to, lane_eq, numbered, to_each, AreAppended, AreNumbered, AreOlder, AreUpTo, FrontWaits}

@@ -1,6 +1,6 @@
 -- Records that are let go, and where those that are kept begin.
 use Rattle.std.proofs.Common.{◌≡◌, ℕ, zero, suc, ◌+◌, ◌-◌, ◌<◌, ◌≤◌, List, [], ◌∷◌, ◌++◌, map, length, get_or, set, drop, refl, sym, ap, ◌∙◌, subst, arith, length-drop}
-use Rattle.td_shard.specs.declared.rows.Numbered.{Numbered}
+use Rattle.td_shard.specs.declared.runs.Numbered.{Numbered}
 use Rattle.td_shard.specs.declared.runs.Run.{Run}
 use Rattle.td_shard.specs.Runs.{part, InOrder, BeginsAt, begin_of, taken_of}
 use Rattle.td_shard.proofs.Ordered.{in_order-le, trimmed}

@@ -4,7 +4,7 @@ use Rattle.std.specs.Map.{keys_of}
 use Rattle.td_stamp.specs.declared.values.State.{State}
 use Rattle.td_stamp.specs.States.{StateList, state_of}
 use Rattle.td_machine.specs.declared.records.StateLeft.{StateLeft}
-use Rattle.td_shard.specs.declared.version.Version.{Version}
+use Rattle.td_shard.specs.declared.versions.Version.{Version}
 use Rattle.td_shard.specs.After.{states_after, entries_at, AreParts}
 use Rattle.td_shard.specs.Versions.{version_or, IsLatestAt}
 use Rattle.td_shard.proofs.EntriesAt.{first_found, none_found}

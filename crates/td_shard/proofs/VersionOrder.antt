@@ -12,7 +12,7 @@ use Rattle.std.proofs.lemmas.Cmp.{ranked}
 use Rattle.std.proofs.lemmas.List.Sorted.{IsPartitionedBy-leb}
 use Rattle.td_stamp.specs.Rises.{Rises}
 use Rattle.td_machine.specs.State.{state_cmp}
-use Rattle.td_shard.specs.declared.version.Version.{Version}
+use Rattle.td_shard.specs.declared.versions.Version.{Version}
 use Rattle.td_shard.specs.Versions.{version_cmp, later, latest, up_to}
 use Rattle.td_shard.proofs.LeftOrders.{version_total, version_apart}
 use Rattle.td_shard.proofs.Rising.{IsPlace, last-pass, rises-filter, rises-at, found-at, found-nowhere}

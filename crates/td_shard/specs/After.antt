@@ -8,7 +8,7 @@ use Rattle.td_stamp.specs.Orders.{state_key_cmp}
 use Rattle.td_stamp.specs.States.{StateList, state_of, AreStates}
 use Rattle.td_machine.specs.declared.records.StateLeft.{StateLeft}
 use Rattle.td_machine.specs.State.{with_left}
-use Rattle.td_shard.specs.declared.version.Version.{Version}
+use Rattle.td_shard.specs.declared.versions.Version.{Version}
 use Rattle.td_shard.specs.Versions.{IsLatestAt}
 
 -- the states after an epoch: those of a base, and then what folds left up to the epoch

@@ -2,7 +2,7 @@
 use Rattle.std.specs.Prelude.{◌≡◌, ◌+◌, ◌^◌, ◌<◌, ◌≤◌, length}
 use Rattle.std.specs.Option.{option_map}
 use Rattle.std.specs.HashMap.{get, spare}
-use Rattle.td_shard.specs.declared.lane.Lane.{Lane}
+use Rattle.td_shard.specs.declared.runs.Lane.{Lane}
 use Rattle.td_shard.specs.declared.mailbox.Mailbox.TheInside.{Inside}
 use Rattle.td_shard.specs.Runs.{messages_of, FrontWaits, AreNumbered, AreLinked, last_on, lane_eq}
 

@@ -10,7 +10,7 @@ use Rattle.td_stamp.specs.States.{StateList, state_of, AreStates}
 use Rattle.td_batch.specs.Meaning.{with_kept}
 use Rattle.td_machine.specs.declared.records.StateLeft.{StateLeft}
 use Rattle.td_machine.specs.State.{state_cmp, left_cmp, with_left}
-use Rattle.td_shard.specs.declared.version.Version.{Version}
+use Rattle.td_shard.specs.declared.versions.Version.{Version}
 
 -- vertices and keys in order, each with its versions
 abbrev pub VersionList : Type 0

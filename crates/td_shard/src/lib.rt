@@ -7,29 +7,23 @@
 #![tactic(auto)]
 
 mod after;
-mod append;
 mod error;
-mod lane;
 pub mod laws;
 mod mailbox;
-mod noted;
 mod outlet;
 mod place;
-mod rows;
 mod runs;
 mod seen;
 mod shard;
 mod take;
-mod version;
 mod versions;
 mod waiting;
 
 pub use after::{StatesAfter, StatesAfterIterator, StatesInOrder, UnorderedAfter};
 pub use error::ShardError;
 pub use mailbox::{Mailbox, Taken};
-pub use noted::Noted;
 pub use outlet::Outlet;
 pub use seen::Seen;
 pub use shard::Shard;
 pub use versions::Versions;
-pub use waiting::Waiting;
+pub use waiting::{Noted, Waiting};

@@ -1,24 +1,22 @@
-//! The runs of messages of a mailbox.
+//! The runs of messages of a mailbox, and their records in one list.
 //!
 //! Runs are linked, and not a map of queues ordered by their heads: std cannot reserve for such a map, and links need no growth.
 //! So a post after `reserve` cannot be refused, and what contracts see is the list of messages itself.
 //!
 //! A message that is picked in the middle of its run is first moved before the run's others. A run whose records are all taken
 //! stays until it is the first. A message costs 24 bytes, and a run 72 beside.
-ghost use Rattle.std.specs.Prelude.{◌≡◌, ◌+◌, ◌-◌, ◌^◌, ◌<◌, ◌≤◌, ◌++◌, [], ℕ, length, take, drop, max, vec_len, vec_capacity};
-ghost use Rattle.std.specs.Prelude.{◌↔◌, OnOk, OnErr, IsTrue, false, map};
-ghost use Rattle.std.specs.List.{HoldsAt};
+ghost use Rattle.std.specs.Prelude.{◌≡◌, ◌+◌, ◌-◌, ◌^◌, ◌<◌, ◌≤◌, ◌++◌, [], ℕ, length, take, drop, max, vec_len, vec_capacity, ◌↔◌, OnOk, OnErr, IsTrue, false, map};
+ghost use Rattle.std.specs.List.{HoldsAt, remove};
 ghost use Rattle.std.specs.VecDeque.{deque_len, deque_capacity};
-ghost use Rattle.td_shard.specs.Runs.{InOrder, BeginsAt, begin_of, taken_of, part, changed_at, extended, linked_to, pushed, rec_of, with_first, without_front};
+ghost use Rattle.td_shard.specs.Runs.{InOrder, BeginsAt, begin_of, taken_of, part, changed_at, extended, linked_to, pushed, rec_of, with_first, without_front, lane_to, numbered};
 
 use crate::error::ShardError;
-use crate::lane::Lane;
-use crate::rows::{Numbered, move_down, pop_rows, push_rows, read_rows};
+use crate::outlet::Outlet;
 use std::alloc::Global;
 use std::collections::VecDeque;
 use std::marker::Model;
 use td_machine::TASK_SIZE;
-use td_stamp::Rec;
+use td_stamp::{Rec, Time};
 
 /// Records that were posted together on one lane. Their places in the list of all are numbered.
 #[derive(Debug, Drop)]
@@ -329,5 +327,99 @@ fn can_number(first: usize, len: usize, room: usize) -> bool
     match len.checked_add(room) {
         Some(many) => first.checked_add(many).is_some(),
         None => false,
+    }
+}
+
+/// The edge to a port of a vertex, and a time. The hash map compares lanes by the derived `==`, and `laws::edges` says what that
+/// means.
+#[derive(Debug, Drop, PartialEq, Eq, Hash)]
+pub(crate) struct Lane {
+    pub vertex: u8,
+    pub port: u8,
+    pub time: Time,
+}
+
+impl Lane {
+    /// The lane to an outlet, at a time.
+    pub fn to(outlet: &Outlet, time: &Time) -> Lane
+        ensures { result ≡ lane_to time.now outlet.now }
+    {
+        Lane {
+            vertex: outlet.reader,
+            port: outlet.port,
+            time: time.copy(),
+        }
+    }
+
+    /// The same lane.
+    pub fn copy(&self) -> Lane
+        ensures { result ≡ self.now }
+    {
+        Lane {
+            vertex: self.vertex,
+            port: self.port,
+            time: self.time.copy(),
+        }
+    }
+}
+
+/// A record with its number.
+#[derive(Clone, Copy, Debug)]
+pub(crate) struct Numbered {
+    pub number: usize,
+    pub rec: Rec,
+}
+
+/// Puts records at the end, numbered from a number on. Takes no memory.
+pub(crate) fn push_rows(rows: &mut VecDeque<Numbered>, number: usize, recs: &[Rec])
+    requires room { deque_len rows.old + length recs.now ≤ deque_capacity rows.old }
+    requires numbers { number + length recs.now < 2 ^ 64 }
+    ensures items { rows.new.items ≡ rows.old.items ++ numbered number recs.now }
+    ensures capacity { deque_capacity rows.new ≡ deque_capacity rows.old }
+{
+    let mut next = number;
+    for rec in recs {
+        rows.push_back_reserved(Numbered {
+            number: next,
+            rec: *rec,
+        });
+        next += 1;
+    }
+}
+
+/// Reads the records from one place to another.
+pub(crate) fn read_rows(rows: &VecDeque<Numbered>, from: usize, to: usize, recs: &mut Vec<Rec>)
+    requires range { from ≤ to }
+    requires within { to ≤ deque_len rows.now }
+    requires room { vec_len recs.old + (to - from) ≤ vec_capacity recs.old }
+    ensures recs { recs.new.items ≡ recs.old.items ++ map rec_of (take (to - from) (drop from rows.now.items)) }
+    ensures capacity { vec_capacity recs.new ≡ vec_capacity recs.old }
+{
+    for place in from..to {
+        recs.push_reserved(rows[place].rec);
+    }
+}
+
+/// Lets go of the first records.
+pub(crate) fn pop_rows(rows: &mut VecDeque<Numbered>, count: usize)
+    requires { count ≤ deque_len rows.old }
+    ensures items { rows.new.items ≡ drop count rows.old.items }
+    ensures capacity { deque_capacity rows.new ≡ deque_capacity rows.old }
+{
+    for _ in 0..count {
+        let _ = rows.pop_front();
+    }
+}
+
+/// Moves the record that stands `count` places after another to the place before that.
+pub(crate) fn move_down(rows: &mut VecDeque<Numbered>, to: usize, count: usize)
+    requires { to + count < deque_len rows.old }
+    ensures items { let rest = drop to rows.old.items in rows.new.items ≡ take to rows.old.items ++ (take 1 (drop count rest) ++ remove rest count) }
+    ensures capacity { deque_capacity rows.old ≤ deque_capacity rows.new }
+{
+    if count > 0 {
+        if let Some(rec) = rows.remove(to + count) {
+            let _ = rows.insert(to, rec);
+        }
     }
 }

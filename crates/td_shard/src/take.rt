@@ -11,10 +11,9 @@ ghost use Rattle.td_shard.specs.Order.{at_number, few};
 ghost use Rattle.td_shard.specs.Runs.{lane_eq, first_on, last_on, AreLinked, FrontWaits, all_of, messages_of, its, rank, rec_of};
 ghost use Rattle.td_shard.specs.Runs.{AreNumbered, AreGrouped, AreOlder, AscendIn};
 ghost use Rattle.td_shard.specs.Runs.{changed_at, without_front, without_at, taken_on, lane_recs};
-ghost use Rattle.td_shard.specs.declared.lane.Lane.{Lane as AnyLane};
+ghost use Rattle.td_shard.specs.declared.runs.Lane.{Lane as AnyLane};
 
-use crate::lane::Lane;
-use crate::runs::Runs;
+use crate::runs::{Lane, Runs};
 use std::collections::HashMap;
 use td_machine::TASK_SIZE;
 use td_stamp::Rec;

@@ -1,12 +1,15 @@
-//! What waits at the groups and folds of a shard.
-ghost use Rattle.std.specs.Prelude.{◌≡◌, ◌++◌, ◌<◌, [], length, map, is_some, OnOk, OnErr};
+//! What waits at the groups and folds of a shard, and the notifications that it asked for.
+ghost use Rattle.std.specs.Prelude.{◌≡◌, ◌++◌, ◌<◌, [], length, map, is_some, OnOk, OnErr, refl};
 ghost use Rattle.std.specs.Option.{option_copied};
 ghost use Rattle.td_stamp.specs.Groups.{arrival_of};
-ghost use Rattle.td_shard.specs.Asked.{items_at, with_items, without_items};
+ghost use Rattle.td_shard.specs.Asked.{items_at, with_items, without_items, noted_cmp};
+ghost use Rattle.std.specs.Ordering.{as_partial_cmp, eq_by_cmp};
+ghost use Rattle.std.specs.Cmp.{partial_equiv_from_equiv, partial_order_from_total};
+ghost use Rattle.td_shard.specs.ProvedOrders.{noted_total, noted_equiv};
 
 use crate::error::ShardError;
-use crate::noted::Noted;
 use std::alloc::Global;
+use std::cmp::Ordering;
 use std::collections::BTreeMap;
 use std::collections::btree_map::Keys;
 use std::marker::Model;
@@ -121,4 +124,51 @@ fn push_items(items: &mut Vec<Arrival>, port: u8, recs: &[Rec]) -> Result<(), Sh
         items.push_reserved(Arrival::new(port, *rec));
     }
     Ok(())
+}
+
+/// A notification of a vertex, at a time. Notifications are ordered by epoch, then by counters as a list from the outermost,
+/// then by vertex.
+#[derive(Debug, Drop)]
+pub struct Noted {
+    pub time: Time,
+    pub vertex: u8,
+}
+
+impl PartialEq for Noted {
+    ghost eq = { eq_by_cmp noted_cmp };
+
+    ghost laws = { partial_equiv_from_equiv noted_equiv };
+
+    fn eq(&self, other: &Noted) -> bool {
+        self.cmp(other).is_eq()
+    }
+}
+
+impl Eq for Noted {
+    ghost laws = { noted_equiv };
+}
+
+impl PartialOrd for Noted {
+    ghost partial_cmp = { as_partial_cmp noted_cmp };
+
+    ghost laws = { partial_order_from_total noted_total };
+
+    fn partial_cmp(&self, other: &Noted) -> Option<Ordering> {
+        Some(self.cmp(other))
+    }
+}
+
+impl Ord for Noted {
+    ghost cmp = { noted_cmp };
+
+    ghost total = { noted_total };
+
+    ghost matches_partial_cmp = { λ m n. refl };
+
+    ghost matches_eq = { λ m n. refl };
+
+    fn cmp(&self, other: &Noted) -> Ordering {
+        let times = self.time.total_cmp(&other.time);
+        times.then(self.vertex.cmp(&other.vertex))
+    }
 }

@@ -7,7 +7,6 @@
 
 mod error;
 pub mod laws;
-mod parse;
 mod payload;
 mod slots;
 

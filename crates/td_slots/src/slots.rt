@@ -11,8 +11,7 @@ ghost use Rattle.td_slots.specs.Parsed.{newer_of, chosen_of, AtLeast, IsValid, I
 ghost use Rattle.td_slots.specs.Steps.{HasSlots, MayBeHeld, SlotsTell, SlotsRefuse, PutsStates, RefusesStates, StatesFit};
 
 use crate::error::SlotsError;
-use crate::parse::{is_slot, states_of};
-use crate::payload::{STATE_LEN, slot_payload};
+use crate::payload::{STATE_LEN, is_slot, slot_payload, states_of};
 use std::alloc::Global;
 use td_disk::Disk;
 use td_gate::Region;

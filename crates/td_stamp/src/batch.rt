@@ -7,8 +7,7 @@ ghost use Rattle.td_stamp.specs.Orders.{entry_cmp, rec_cmp};
 ghost use Rattle.td_stamp.specs.Bag.{bag_of, IsBag};
 ghost use Rattle.td_stamp.specs.Batch.{records_for};
 
-use crate::bag::Bag;
-use crate::members::Members;
+use crate::bag::{Bag, Members};
 use crate::values::{Entry, Rec};
 use std::marker::Model;
 

@@ -6,7 +6,7 @@ ghost use Rattle.td_plan.specs.Lines.{Line};
 ghost use Rattle.td_gate.specs.Reading.{Each};
 ghost use Rattle.td_slots.specs.declared.slots.Checkpoint.{Checkpoint as AnyCheckpoint};
 ghost use Rattle.td_slots.specs.Slot.{FitsState};
-ghost use Rattle.td_journal.specs.declared.submitted.Submitted.{Submitted as AnySubmitted};
+ghost use Rattle.td_journal.specs.declared.payload.Submitted.{Submitted as AnySubmitted};
 ghost use Rattle.td_store.specs.standing.Standing.{Standing};
 ghost use Rattle.td_store.specs.standing.Stops.{Stands};
 ghost use Rattle.td_store.specs.standing.Tells.{checkpoint_of};

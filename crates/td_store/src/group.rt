@@ -14,5 +14,6 @@ mod free;
 pub mod laws;
 mod submit;
 
+pub use cells::ring_of;
 pub use free::close_free;
 pub use submit::{NextCell, submit_group};

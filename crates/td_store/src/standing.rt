@@ -9,12 +9,10 @@
 mod error;
 mod format;
 pub mod laws;
-mod layout;
 mod parts;
 mod steps;
 
 pub use error::{KeeperError, Part};
 pub use format::format_device;
-pub use layout::{ring_of, slots_of};
-pub use parts::{Counted, Recovered, count_device, read_parts, recover_device};
+pub use parts::{Counted, Recovered, count_device, read_parts, recover_device, slots_of};
 pub use steps::{raise_head, submit_batch, write_states};

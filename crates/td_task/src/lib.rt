@@ -8,15 +8,13 @@
 //! up to 64 records of one edge and time, and its `Done` what the map sends of each.
 #![tactic(auto)]
 
-mod done;
 mod error;
 mod keyed;
 pub mod laws;
-mod lists;
 mod run;
 mod task;
 
-pub use done::Done;
 pub use error::TaskError;
 pub use keyed::{KeyAt, KeyedItems};
+pub use run::Done;
 pub use task::{Task, Work};

@@ -12,7 +12,7 @@ use Rattle.td_machine.specs.Sound.{Confluence, NeverStuck, batches_of}
 use Rattle.td_disk.specs.Disk.{DiskView, DiskState}
 use Rattle.td_head.specs.declared.head.Head.{Head}
 use Rattle.td_slots.specs.Slot.{are_states}
-use Rattle.td_journal.specs.declared.submitted.Submitted.{Submitted}
+use Rattle.td_journal.specs.declared.payload.Submitted.{Submitted}
 use Rattle.td_store.specs.declared.standing.error.KeeperError.{KeeperError}
 use Rattle.td_store.specs.standing.Standing.{Standing, with_more, nothing_told}
 use Rattle.td_store.specs.standing.Stops.{Begins, Advance, Stands}

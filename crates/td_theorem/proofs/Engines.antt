@@ -26,7 +26,7 @@ use Rattle.td_slots.specs.declared.error.SlotsError.{SlotsError}
 use Rattle.td_slots.specs.declared.error.SlotsError.TheVariants.{Damaged, NoSlot}
 use Rattle.td_slots.specs.Slot.{slot, is_slot, is_front, states_in, are_states}
 use Rattle.td_slots.specs.Newest.{where_valid, spelled, checkpoint_in, second_if, later, newest_of, newest_in}
-use Rattle.td_journal.specs.declared.submitted.Submitted.{Submitted}
+use Rattle.td_journal.specs.declared.payload.Submitted.{Submitted}
 use Rattle.td_store.specs.standing.Standing.{Standing, batches_of}
 use Rattle.td_store.specs.standing.Stops.{Stands}
 use Rattle.td_store.specs.standing.Told.{Told, folds_of, slots_of}

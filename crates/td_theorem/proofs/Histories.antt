@@ -12,7 +12,7 @@ use Rattle.td_plan.specs.Lines.{Line}
 use Rattle.td_plan.specs.Tree.{Nodes, tree_of}
 use Rattle.td_calls.specs.Answers.{Answers}
 use Rattle.td_batch.specs.Meaning.{run, epoch_result, states_after, numbered}
-use Rattle.td_journal.specs.declared.submitted.Submitted.{Submitted}
+use Rattle.td_journal.specs.declared.payload.Submitted.{Submitted}
 use Rattle.td_store.specs.standing.Standing.{Standing, last_epoch, batches_of}
 use Rattle.td_store.specs.standing.Stops.{Begins, Stands}
 use Rattle.td_store.specs.standing.Advanced.{states_by}

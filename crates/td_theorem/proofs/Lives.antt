@@ -9,7 +9,7 @@ use Rattle.td_plan.specs.Tree.{tree_of}
 use Rattle.td_calls.specs.Answers.{Answers}
 use Rattle.td_disk.specs.Disk.{DiskView, DiskState}
 use Rattle.td_journal.specs.Numbers.{rise}
-use Rattle.td_journal.specs.declared.submitted.Submitted.{Submitted}
+use Rattle.td_journal.specs.declared.payload.Submitted.{Submitted}
 use Rattle.td_store.specs.standing.Standing.{Standing, nothing_told}
 use Rattle.td_store.specs.standing.Stops.{Stands}
 use Rattle.td_store.specs.standing.Told.{Told}

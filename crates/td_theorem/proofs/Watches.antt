@@ -5,7 +5,7 @@ use Rattle.td_stamp.specs.declared.values.Entry.{Entry}
 use Rattle.td_calls.specs.Answers.{Answers}
 use Rattle.td_machine.specs.State.{HallState}
 use Rattle.td_disk.specs.Disk.{DiskView, DiskState}
-use Rattle.td_journal.specs.declared.submitted.Submitted.{Submitted as AnySubmitted}
+use Rattle.td_journal.specs.declared.payload.Submitted.{Submitted as AnySubmitted}
 use Rattle.td_store.specs.declared.standing.error.KeeperError.{KeeperError}
 use Rattle.td_watch.specs.View.{View}
 use Rattle.td_questions.specs.declared.question.Wanted.{Wanted}

@@ -9,7 +9,7 @@ use Rattle.td_machine.specs.Steps.{Event, Answer, Step, Plays, opened, collect_s
 use Rattle.td_machine.specs.Steps.Event.{taking}
 use Rattle.td_machine.specs.Steps.Answer.{has_taken, has_cut}
 use Rattle.td_machine.specs.Sound.{outs_by, batches_of as released}
-use Rattle.td_journal.specs.declared.submitted.Submitted.{Submitted}
+use Rattle.td_journal.specs.declared.payload.Submitted.{Submitted}
 use Rattle.td_store.specs.standing.Standing.{Standing, batches_of}
 use Rattle.td_keeper.specs.Acknowledged.{outs_of}
 

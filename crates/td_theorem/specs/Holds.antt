@@ -5,7 +5,7 @@ use Rattle.td_plan.specs.Faults.{IsPlan}
 use Rattle.td_calls.specs.Answers.{Answers}
 use Rattle.td_disk.specs.Disk.{DiskView, DiskState}
 use Rattle.td_head.specs.Layout.{Sizes}
-use Rattle.td_journal.specs.declared.submitted.Submitted.{Submitted}
+use Rattle.td_journal.specs.declared.payload.Submitted.{Submitted}
 use Rattle.td_journal.specs.Numbers.{rise}
 use Rattle.td_store.specs.standing.Standing.{Standing, nothing_told}
 use Rattle.td_store.specs.standing.Stops.{Begins, Stands}

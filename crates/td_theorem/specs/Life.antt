@@ -6,7 +6,7 @@ use Rattle.td_calls.specs.Answers.{Answers}
 use Rattle.td_disk.specs.Disk.{DiskView, DiskState}
 use Rattle.td_gate.specs.CrashSafe.{CrashSafe, Unchanged}
 use Rattle.td_watch.specs.View.{View}
-use Rattle.td_journal.specs.declared.submitted.Submitted.{Submitted}
+use Rattle.td_journal.specs.declared.payload.Submitted.{Submitted}
 use Rattle.td_store.specs.standing.Standing.{Standing}
 use Rattle.td_store.specs.standing.Told.{Told}
 use Rattle.td_store.specs.standing.Tells.{Keeps}

@@ -4,7 +4,7 @@ use Rattle.std.specs.Prelude.{All}
 use Rattle.std.proofs.lemmas.Bool.{ltb-false}
 use Rattle.std.proofs.lemmas.List.Elements.{All-nil, All-cons}
 use Rattle.td_head.specs.Layout.{Sizes}
-use Rattle.td_journal.specs.declared.submitted.Submitted.{Submitted}
+use Rattle.td_journal.specs.declared.payload.Submitted.{Submitted}
 use Rattle.td_store.specs.standing.Standing.{Standing}
 use Rattle.td_store.specs.declared.copy.error.CopyError.{CopyError}
 use Rattle.td_store.specs.declared.copy.error.CopyError.TheVariants.{TooManyKeys, Full, TooManyRecords}

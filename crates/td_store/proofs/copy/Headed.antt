@@ -10,7 +10,7 @@ use Rattle.td_head.specs.Head.{headed, head_bytes, TellsCanonical}
 use Rattle.td_head.specs.Images.{IsFirstHead}
 use Rattle.td_slots.specs.Slot.{slot}
 use Rattle.td_journal.specs.declared.journal.Journal.{Journal}
-use Rattle.td_journal.specs.declared.submitted.Submitted.{Submitted}
+use Rattle.td_journal.specs.declared.payload.Submitted.{Submitted}
 use Rattle.td_journal.specs.Cell.{cell}
 use Rattle.td_journal.specs.Images.{SameCells}
 use Rattle.td_journal.specs.Ring.{told_after}

@@ -9,7 +9,7 @@ use Rattle.td_slots.specs.Slot.{slot}
 use Rattle.td_slots.specs.Newest.{newest}
 use Rattle.td_slots.specs.Images.{SameSlots}
 use Rattle.td_journal.specs.declared.journal.Journal.{Journal}
-use Rattle.td_journal.specs.declared.submitted.Submitted.{Submitted}
+use Rattle.td_journal.specs.declared.payload.Submitted.{Submitted}
 use Rattle.td_journal.specs.Numbers.{may_come, floor_after}
 use Rattle.td_journal.specs.Cell.{cell, cell_of, cell_bytes, IsCellBatch}
 use Rattle.td_journal.specs.Ring.{told_after}

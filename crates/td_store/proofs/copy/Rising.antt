@@ -5,7 +5,7 @@ use Rattle.std.proofs.lemmas.Bool.Decides.{eqb_tells}
 use Rattle.std.proofs.lemmas.List.{take_more, take_all, append_assoc, length-take-le}
 use Rattle.std.proofs.Math.Seq.{take-length}
 use Rattle.td_stamp.specs.declared.values.Entry.{Entry}
-use Rattle.td_journal.specs.declared.submitted.Submitted.{Submitted}
+use Rattle.td_journal.specs.declared.payload.Submitted.{Submitted}
 use Rattle.td_journal.specs.Numbers.{floor_after, greatest, may_come, rise}
 use Rattle.td_head.specs.Layout.{Sizes}
 use Rattle.td_store.specs.standing.Standing.{Standing, with_more}

@@ -8,7 +8,7 @@ use Rattle.td_head.specs.Layout.{Sizes}
 use Rattle.td_head.specs.declared.head.Head.{Head}
 use Rattle.td_slots.specs.declared.slots.Checkpoint.{Checkpoint}
 use Rattle.td_journal.specs.Cell.{is_batch}
-use Rattle.td_journal.specs.declared.submitted.Submitted.{Submitted}
+use Rattle.td_journal.specs.declared.payload.Submitted.{Submitted}
 use Rattle.td_store.specs.standing.Standing.{Standing}
 use Rattle.td_store.specs.standing.Told.{inputs_of}
 use Rattle.td_store.specs.declared.standing.parts.Recovered.{Recovered}

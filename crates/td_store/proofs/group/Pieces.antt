@@ -9,7 +9,7 @@ use Rattle.td_gate.specs.declared.region.Region.{Region}
 use Rattle.td_gate.specs.Region.{gate_of, opened}
 use Rattle.td_gate.specs.Reading.{Each}
 use Rattle.td_journal.specs.declared.journal.Journal.{Journal}
-use Rattle.td_journal.specs.declared.submitted.Submitted.{Submitted}
+use Rattle.td_journal.specs.declared.payload.Submitted.{Submitted}
 use Rattle.td_journal.specs.Cell.{cell_of, cell_len, cell_bytes, FitsEntry}
 use Rattle.td_store.specs.group.Groups.{payloads, gated, AllFew, AllFit, HasPieces, Hold}
 

@@ -8,7 +8,7 @@ use Rattle.td_gate.specs.declared.region.Region.{Region}
 use Rattle.td_gate.specs.Region.{gate_of, opened, Closes, IsClosed, IsFilled}
 use Rattle.td_gate.specs.Regions.{Apart}
 use Rattle.td_journal.specs.declared.journal.Journal.{Journal}
-use Rattle.td_journal.specs.declared.submitted.Submitted.{Submitted}
+use Rattle.td_journal.specs.declared.payload.Submitted.{Submitted}
 use Rattle.td_journal.specs.Cell.{cell_of, cell_len}
 use Rattle.td_journal.specs.Images.{IsBorne, Clears}
 use Rattle.td_store.specs.group.Groups.{payloads, ChangesCells, ClosesNext, EachReady, IsBeside, IsReady, Spares, touched}

@@ -15,7 +15,7 @@ use Rattle.td_slots.specs.Slot.{slot}
 use Rattle.td_slots.specs.Newest.{newest}
 use Rattle.td_slots.specs.Images.{SameSlots}
 use Rattle.td_journal.specs.declared.journal.Journal.{Journal}
-use Rattle.td_journal.specs.declared.submitted.Submitted.{Submitted}
+use Rattle.td_journal.specs.declared.payload.Submitted.{Submitted}
 use Rattle.td_journal.specs.Cell.{cell, cell_of, cell_bytes, bears}
 use Rattle.td_journal.specs.Images.{IsBorne, IsNext}
 use Rattle.td_journal.specs.Numbers.{floor_after, greatest}

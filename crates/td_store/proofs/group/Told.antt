@@ -4,7 +4,7 @@ use Rattle.std.proofs.lemmas.Bool.{cases_Bool, and_parts}
 use Rattle.std.proofs.lemmas.List.{length-append}
 use Rattle.td_gate.specs.Region.{opened}
 use Rattle.td_journal.specs.declared.journal.Journal.{Journal}
-use Rattle.td_journal.specs.declared.submitted.Submitted.{Submitted}
+use Rattle.td_journal.specs.declared.payload.Submitted.{Submitted}
 use Rattle.td_journal.specs.Numbers.{floor_after, may_come, raised}
 use Rattle.td_journal.specs.Cell.{cell_of, cell_bytes, bears, found_in, where_borne, where_valid, is_cell, submitted_in, IsCellBatch}
 use Rattle.td_journal.specs.Cell.Found.{ended, submitted}

@@ -18,7 +18,7 @@ use Rattle.td_slots.specs.declared.slots.Checkpoint.{Checkpoint}
 use Rattle.td_slots.specs.Newest.{newest, second_if, beside, after_write}
 use Rattle.td_slots.specs.Images.{SameSlots}
 use Rattle.td_journal.specs.declared.error.JournalError.{JournalError}
-use Rattle.td_journal.specs.declared.submitted.Submitted.{Submitted}
+use Rattle.td_journal.specs.declared.payload.Submitted.{Submitted}
 use Rattle.td_journal.specs.Numbers.{greatest}
 use Rattle.td_journal.specs.Cell.{cell}
 use Rattle.td_journal.specs.Ring.{told_after}

@@ -4,7 +4,7 @@ use Rattle.std.proofs.lemmas.List.{append_assoc, length-append, length-drop, tak
 use Rattle.std.proofs.Math.Seq.{take-add}
 use Rattle.td_stamp.specs.declared.values.Entry.{Entry}
 use Rattle.td_stamp.specs.States.{StateList}
-use Rattle.td_journal.specs.declared.submitted.Submitted.{Submitted}
+use Rattle.td_journal.specs.declared.payload.Submitted.{Submitted}
 use Rattle.td_journal.specs.Numbers.{greatest}
 use Rattle.td_store.specs.standing.Standing.{Standing, last_epoch, batches_of, with_more, cut_at}
 use Rattle.td_store.specs.standing.Stops.{Advance}

@@ -6,7 +6,7 @@ use Rattle.td_gate.specs.CrashSafe.{CrashSafe}
 use Rattle.td_gate.specs.Region.{Puts, IsOpen}
 use Rattle.td_gate.specs.Regions.{Replaces}
 use Rattle.td_head.specs.declared.head.Head.{Head}
-use Rattle.td_journal.specs.declared.submitted.Submitted.{Submitted}
+use Rattle.td_journal.specs.declared.payload.Submitted.{Submitted}
 use Rattle.td_journal.specs.Cell.{cell_of, cell_bytes, IsCellBatch}
 use Rattle.td_journal.specs.Images.{NothingFollows, Clears, IsGone}
 use Rattle.td_store.specs.standing.Standing.{Standing, with_more}

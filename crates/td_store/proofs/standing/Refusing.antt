@@ -3,8 +3,8 @@ use Rattle.std.proofs.Common.{◌≡◌, ◌⊎◌, inl, inr, ⊎_elim, ℕ, Lis
 use Rattle.std.specs.Result.{IsErrAnd}
 use Rattle.std.proofs.lemmas.List.{length-map}
 use Rattle.td_journal.specs.declared.journal.Journal.{Journal}
-use Rattle.td_journal.specs.declared.submitted.Submitted.{Submitted}
-use Rattle.td_journal.specs.declared.submitted.Counts.{Counts}
+use Rattle.td_journal.specs.declared.payload.Submitted.{Submitted}
+use Rattle.td_journal.specs.declared.payload.Counts.{Counts}
 use Rattle.td_journal.specs.Counts.{counts_of}
 use Rattle.td_journal.specs.Ring.{told_after}
 

@@ -5,7 +5,7 @@ use Rattle.std.proofs.Math.Seq.{take-append-add}
 use Rattle.std.proofs.Math.Nat.{le-max_left, le-max_right}
 use Rattle.td_stamp.specs.declared.values.Entry.{Entry}
 use Rattle.td_stamp.specs.States.{StateList}
-use Rattle.td_journal.specs.declared.submitted.Submitted.{Submitted}
+use Rattle.td_journal.specs.declared.payload.Submitted.{Submitted}
 use Rattle.td_journal.specs.Numbers.{greatest, floor_after, may_come}
 use Rattle.td_store.specs.standing.Standing.{Standing, last_epoch, last_request, batches_of, with_more, cut_at}
 use Rattle.td_store.specs.standing.Stops.{Advance, Holds}

@@ -7,7 +7,7 @@ use Rattle.td_slots.specs.declared.error.SlotsError.{SlotsError}
 use Rattle.td_slots.specs.declared.slots.Checkpoint.{Checkpoint}
 use Rattle.td_slots.specs.Slot.{is_last, is_front, is_slot, are_states, states_in}
 use Rattle.td_slots.specs.Newest.{spelled, checkpoint_in, newest_in, newest_of, second_if, where_valid}
-use Rattle.td_journal.specs.declared.submitted.Submitted.{Submitted}
+use Rattle.td_journal.specs.declared.payload.Submitted.{Submitted}
 use Rattle.td_journal.specs.Numbers.{greatest, rise}
 use Rattle.td_store.specs.standing.Told.{floor_of}
 

@@ -1,7 +1,7 @@
 -- Whether a disk of other sizes has room for a standing.
 use Rattle.std.specs.Prelude.{ℕ, ◌+◌, ◌≤◌, nat_lt, if◌then◌else◌, List, [], ◌∷◌, length, All, Option, Some, None}
 use Rattle.td_head.specs.Layout.{Sizes}
-use Rattle.td_journal.specs.declared.submitted.Submitted.{Submitted}
+use Rattle.td_journal.specs.declared.payload.Submitted.{Submitted}
 use Rattle.td_store.specs.standing.Standing.{Standing}
 use Rattle.td_store.specs.declared.copy.error.CopyError.{CopyError}
 use Rattle.td_store.specs.declared.copy.error.CopyError.TheVariants.{TooManyKeys, Full, TooManyRecords}

@@ -6,7 +6,7 @@ use Rattle.td_gate.specs.declared.region.Region.{Region}
 use Rattle.td_gate.specs.Region.{opened, Closes}
 use Rattle.td_head.specs.Layout.{Sizes}
 use Rattle.td_journal.specs.declared.journal.Journal.{Journal}
-use Rattle.td_journal.specs.declared.submitted.Submitted.{Submitted}
+use Rattle.td_journal.specs.declared.payload.Submitted.{Submitted}
 use Rattle.td_journal.specs.Cell.{cell_of, cell_len, cell_bytes, is_batch, FitsEntry, IsCellBatch}
 use Rattle.td_journal.specs.Images.{IsBorne}
 use Rattle.td_journal.specs.Numbers.{may_come, raised}

@@ -6,7 +6,7 @@ use Rattle.td_gate.specs.CrashSafe.{CrashSafe}
 use Rattle.td_gate.specs.Region.{opened, IsOpen, Puts}
 use Rattle.td_head.specs.declared.head.Head.{Head}
 use Rattle.td_journal.specs.declared.journal.Journal.{Journal}
-use Rattle.td_journal.specs.declared.submitted.Submitted.{Submitted}
+use Rattle.td_journal.specs.declared.payload.Submitted.{Submitted}
 use Rattle.td_journal.specs.Cell.{cell_of, cell_bytes}
 use Rattle.td_journal.specs.Images.{IsBorne, IsNext}
 use Rattle.td_journal.specs.Numbers.{floor_after}

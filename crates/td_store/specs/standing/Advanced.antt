@@ -8,7 +8,7 @@ use Rattle.td_calls.specs.Answers.{Answers}
 use Rattle.td_batch.specs.Meaning.{run}
 use Rattle.td_disk.specs.Disk.{DiskState}
 use Rattle.td_head.specs.declared.head.Head.{Head}
-use Rattle.td_journal.specs.declared.submitted.Submitted.{Submitted}
+use Rattle.td_journal.specs.declared.payload.Submitted.{Submitted}
 use Rattle.td_store.specs.standing.Standing.{Standing, with_more, last_epoch}
 use Rattle.td_store.specs.standing.Stops.{Advance, Holds}
 use Rattle.td_store.specs.standing.Told.{Told}

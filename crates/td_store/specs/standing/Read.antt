@@ -6,7 +6,7 @@ use Rattle.td_head.specs.declared.head.Head.{Head}
 use Rattle.td_slots.specs.Slot.{are_states}
 use Rattle.td_journal.specs.Cell.{is_batch}
 use Rattle.td_journal.specs.Counts.{counts_of}
-use Rattle.td_journal.specs.declared.submitted.Submitted.{Submitted}
+use Rattle.td_journal.specs.declared.payload.Submitted.{Submitted}
 use Rattle.td_store.specs.declared.standing.parts.Counted.{Counted}
 use Rattle.td_store.specs.declared.standing.parts.Recovered.{Recovered}
 use Rattle.td_store.specs.declared.standing.error.KeeperError.{KeeperError}

@@ -11,7 +11,7 @@ use Rattle.td_head.specs.declared.head.Head.{Head}
 use Rattle.td_head.specs.Head.{raised, raised_bytes}
 use Rattle.td_head.specs.Layout.{head}
 use Rattle.td_slots.specs.Slot.{slot, slot_bytes}
-use Rattle.td_journal.specs.declared.submitted.Submitted.{Submitted}
+use Rattle.td_journal.specs.declared.payload.Submitted.{Submitted}
 use Rattle.td_journal.specs.Numbers.{greatest}
 use Rattle.td_journal.specs.Cell.{cell_of, cell_bytes, IsCellBatch}
 use Rattle.td_journal.specs.Images.{NothingFollows, Clears, IsGone}

@@ -3,7 +3,7 @@ use Rattle.std.specs.Prelude.{ℕ, ◌+◌, List, [], ◌++◌, length, take, dr
 use Rattle.td_stamp.specs.declared.values.Entry.{Entry}
 use Rattle.td_stamp.specs.States.{StateList}
 use Rattle.td_slots.specs.declared.slots.Checkpoint.{Checkpoint}
-use Rattle.td_journal.specs.declared.submitted.Submitted.{Submitted}
+use Rattle.td_journal.specs.declared.payload.Submitted.{Submitted}
 use Rattle.td_journal.specs.Numbers.{greatest}
 
 -- A STANDING: the epoch of the checkpoint, its states, the greatest request number of the epochs up to it (0 for none), and

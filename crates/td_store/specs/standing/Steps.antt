@@ -14,7 +14,7 @@ use Rattle.td_slots.specs.declared.error.SlotsError.{SlotsError}
 use Rattle.td_journal.specs.declared.error.JournalError.{JournalError}
 use Rattle.td_journal.specs.declared.error.JournalError.TheVariants.{Memory}
 use Rattle.td_journal.specs.declared.journal.Journal.{Journal}
-use Rattle.td_journal.specs.declared.submitted.Submitted.{Submitted}
+use Rattle.td_journal.specs.declared.payload.Submitted.{Submitted}
 use Rattle.td_journal.specs.Numbers.{greatest}
 use Rattle.td_journal.specs.Cell.{is_batch}
 use Rattle.td_store.specs.standing.Standing.{Standing, submission, with_more, cut_at, nothing_told}

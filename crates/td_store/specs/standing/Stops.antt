@@ -2,7 +2,7 @@
 use Rattle.std.specs.Prelude.{◌≡◌, ℕ, ◌+◌, ◌≤◌, List, [], ◌++◌, length, take, drop}
 use Rattle.td_stamp.specs.declared.values.Entry.{Entry}
 use Rattle.td_stamp.specs.States.{StateList}
-use Rattle.td_journal.specs.declared.submitted.Submitted.{Submitted}
+use Rattle.td_journal.specs.declared.payload.Submitted.{Submitted}
 use Rattle.td_journal.specs.Numbers.{greatest}
 use Rattle.td_store.specs.standing.Standing.{Standing, last_epoch, batches_of}
 

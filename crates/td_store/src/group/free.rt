@@ -6,51 +6,20 @@
 //!
 //! A stop in the middle of a group leaves open cells behind the end, with the numbers of epochs that do not count. Each epoch
 //! that is put clears the next of them, and a group the one behind it.
-ghost use Rattle.std.specs.Prelude.{◌≡◌, ◌+◌, ◌^◌, ◌<◌, ◌≤◌, false, None, OnOk, IfOk};
+ghost use Rattle.std.specs.Prelude.{◌≡◌, ◌+◌, ◌^◌, ◌<◌, ◌≤◌, false, OnOk, IfOk};
 ghost use Rattle.td_disk.specs.Calls.{Calls};
-ghost use Rattle.td_disk.specs.Disk.{IsDurable, SameOutside};
+ghost use Rattle.td_disk.specs.Disk.{IsDurable};
 ghost use Rattle.td_gate.specs.CrashSafe.{CrashSafe, Unchanged};
 ghost use Rattle.td_gate.specs.Reads.{IsRead};
-ghost use Rattle.td_gate.specs.Region.{opened, IsSettled, Closes};
 ghost use Rattle.td_journal.specs.Cell.{ring_len};
 ghost use Rattle.td_journal.specs.Steps.{IsRing};
 ghost use Rattle.td_store.specs.group.Groups.{AreShut, ClosesSome};
 ghost use Rattle.td_store.specs.standing.Steps.{ClosesFree, WritesOnlyIfOpen};
 
+use crate::group::cells::close_gate;
 use crate::group::laws;
 use td_disk::{Disk, Fault};
-use td_gate::{OPEN, Region};
 use td_journal::Journal;
-
-/// What is written to a gate to close it.
-const CLOSED: u8 = 0;
-
-/// Closes the gate of a region where it reads open, with no sync, and answers whether it did. A gate that reads closed is not written: torn,
-/// that write could read open.
-pub(crate) fn close_gate<D: Disk>(region: Region, device: &mut D) -> Result<bool, Fault>
-    requires { region.at + region.len + 1 ≤ (D.view device.old).capacity }
-    ensures device { Calls D.view result device.old device.new }
-    ensures crash_safe { (D.view device.old).lawful → IsSettled region (D.view device.old).state
-        → CrashSafe (Closes region) (D.view device.old).state (D.view device.new).state }
-    ensures others { (D.view device.old).lawful
-        → SameOutside region.at (region.len + 1) (D.view device.old).state.bytes (D.view device.new).state.bytes }
-    ensures closed { OnOk result ((D.view device.old).lawful → opened region (D.view device.new).state.bytes ≡ None) }
-    ensures unwritten { IfOk result (λ wrote. wrote ≡ false → IsRead D.view device.old device.new) }
-    ensures needless { IfOk result (λ wrote. (D.view device.old).lawful → opened region (D.view device.old).state.bytes ≡ None → wrote ≡ false) }
-    ensures idle { (D.view device.old).lawful → opened region (D.view device.old).state.bytes ≡ None
-        → CrashSafe Unchanged (D.view device.old).state (D.view device.new).state }
-{
-    td_gate::laws::unchanged::<D>();
-    let _size = device.size();
-    let gate = region.at + region.len;
-    let mut byte = [0];
-    device.read(gate, &mut byte)?;
-    if byte[0] != OPEN {
-        return Ok(false);
-    }
-    device.write(gate, &[CLOSED])?;
-    Ok(true)
-}
 
 /// Closes the open gates of the cells of `count` epochs from `first` on, with no sync, and answers whether there was one.
 fn close_gates<D: Disk>(

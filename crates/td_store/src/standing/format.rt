@@ -8,7 +8,7 @@ ghost use Rattle.td_store.specs.standing.Steps.{KeepsNothing};
 
 use crate::standing::error::KeeperError;
 use crate::standing::laws;
-use crate::standing::layout::slots_of;
+use crate::standing::parts::slots_of;
 use std::alloc::Global;
 use td_disk::Disk;
 use td_head::Shape;

@@ -21,7 +21,7 @@ ghost use Rattle.td_slots.specs.Slot.{slot};
 ghost use Rattle.td_slots.specs.declared.slots.Checkpoint.{Checkpoint as AnyCheckpoint};
 ghost use Rattle.td_slots.specs.Newest.{newest};
 ghost use Rattle.td_journal.specs.declared.error.JournalError.{JournalError};
-ghost use Rattle.td_journal.specs.declared.submitted.Submitted.{Submitted as AnySubmitted};
+ghost use Rattle.td_journal.specs.declared.payload.Submitted.{Submitted as AnySubmitted};
 ghost use Rattle.td_journal.specs.Cell.{cell, cell_of};
 ghost use Rattle.td_journal.specs.Ring.{told_after};
 ghost use Rattle.td_journal.specs.Images.{NothingFollows};

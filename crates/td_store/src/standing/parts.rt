@@ -1,30 +1,33 @@
 //! What is read of a disk, part by part.
-ghost use Rattle.std.specs.Prelude.{◌≡◌, ◌+◌, ◌^◌, ◌<◌, ◌≤◌, List, length, All, true, Ok, Err, IfOk, IfErr};
+//!
+//! The layout has its home in `td_head`: heads, `Shape::slots_at` and `cells_at`. Of a shape the slots are made here, and the ring of
+//! cells by `crate::group::ring_of`, with the definition's contract.
+ghost use Rattle.std.specs.Prelude.{◌≡◌, ◌+◌, ◌^◌, ◌<◌, ◌≤◌, List, length, All, true, Ok, Err, IfOk, IfErr, ◌*◌};
 ghost use Rattle.td_disk.specs.Calls.{KeepsDevice};
 ghost use Rattle.td_disk.specs.Disk.{CountsDevice};
 ghost use Rattle.td_gate.specs.Reads.{IsRead};
 ghost use Rattle.td_gate.specs.Steps.{WritesNothing};
 ghost use Rattle.td_head.specs.Layout.{size_of};
-ghost use Rattle.td_journal.specs.declared.submitted.Submitted.{Submitted as AnySubmitted};
+ghost use Rattle.td_journal.specs.declared.payload.Submitted.{Submitted as AnySubmitted};
 ghost use Rattle.td_journal.specs.declared.error.JournalError.{JournalError};
 ghost use Rattle.td_journal.specs.Cell.{is_batch, ring_len};
 ghost use Rattle.td_journal.specs.Ring.{told_after};
 ghost use Rattle.td_store.specs.standing.Refusals.{of_journal};
 ghost use Rattle.td_store.specs.standing.Standing.{standing_from};
-ghost use Rattle.td_store.specs.standing.Told.{Told, inputs_of, folds_of, floor_of as floor_in};
+ghost use Rattle.td_store.specs.standing.Told.{Told, inputs_of, folds_of, floor_of as floor_in, slots_of as slots_in};
 ghost use Rattle.td_store.specs.standing.Tells.{Tells};
-ghost use Rattle.td_store.specs.standing.Read.{standing_of, MayStand, Refused};
-ghost use Rattle.td_store.specs.standing.Read.{IsRecovered, KeepsRecovered, IsCountedOf, KeepsCounted, DiskRefuses, SyncedRefuses};
+ghost use Rattle.td_store.specs.standing.Read.{standing_of, MayStand, Refused, IsRecovered, KeepsRecovered, IsCountedOf, KeepsCounted, DiskRefuses, SyncedRefuses};
+ghost use Rattle.td_slots.specs.Slot.{slot_len};
 
+use crate::group::ring_of;
 use crate::standing::error::KeeperError;
 use crate::standing::laws;
-use crate::standing::layout::{ring_of, slots_of};
 use std::alloc::{AllocError, Global};
 use td_disk::Disk;
-use td_head::Head;
+use td_head::{Head, Shape};
 use td_journal::{Counts, Journal, Submitted};
 use td_plan::{Kind, Plan};
-use td_slots::Checkpoint;
+use td_slots::{Checkpoint, Slots};
 
 /// What a disk tells: its head, its checkpoint, and the batches after it.
 #[derive(Drop)]
@@ -223,4 +226,17 @@ pub fn count_device<D: Disk>(
     device.sync()?;
     let counted = count_parts(alloc, device, plan)?;
     Ok(counted)
+}
+
+/// The slots of a disk of this shape.
+pub fn slots_of(shape: &Shape) -> Slots
+    ensures slots { result ≡ slots_in shape.now }
+    ensures limit { result.k ≤ 1048576 }
+    ensures within { result.at + 2 * (slot_len result.k + 1) ≤ size_of shape.now }
+{
+    let _bytes = shape.bytes();
+    Slots {
+        at: shape.slots_at(),
+        k: shape.states(),
+    }
 }

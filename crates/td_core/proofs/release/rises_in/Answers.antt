@@ -1,6 +1,6 @@
 use Rattle.std.proofs.Common.{◌≡◌, ◌+◌, ◌++◌, [], ◌∷◌, flat_map, length, map, take, ap, sym, ◌∙◌, append_assoc}
 use Rattle.td_progress.specs.Bag.{input_stamp}
-use Rattle.td_core.specs.declared.raising.Rise.{Rise}
+use Rattle.td_core.specs.declared.posting.Rise.{Rise}
 use Rattle.td_core.specs.Posted.{stamp_on_outlet}
 use Rattle.td_core.specs.Released.{load_of, rises_of, start_of}
 use Rattle.td_core.specs.Sites.{outlets_in}

@@ -1,6 +1,6 @@
 use Rattle.std.proofs.Common.{◌+◌, length, ⊎_elim, List, sym, subst, append-nil, arith}
 use Rattle.td_plan.specs.Lines.{Line}
-use Rattle.td_journal.specs.declared.submitted.Submitted.{Submitted}
+use Rattle.td_journal.specs.declared.payload.Submitted.{Submitted}
 use Rattle.td_keeper.specs.Keeping.{Keeping}
 use Rattle.td_store.specs.standing.Stops.{Stands}
 use Rattle.td_store.specs.standing.Advanced.{TellsAdvance, states_by}

@@ -1,7 +1,7 @@
 use Rattle.std.proofs.Common.{◌≡◌, List, [], ◌∷◌, ◌++◌, ◌||◌, Bool, true, false, refl, ◌∙◌, subst}
 use Rattle.std.proofs.lemmas.List.{append-nil}
 use Rattle.td_plan.specs.Tree.{tree_of}
-use Rattle.td_journal.specs.declared.submitted.Submitted.{Submitted}
+use Rattle.td_journal.specs.declared.payload.Submitted.{Submitted}
 use Rattle.td_keeper.specs.Driven.{submitted_in, is_failed, Advances, Driven}
 use Rattle.td_keeper.proofs.Driving.{driven_advances}
 use Rattle.td_keeper.proofs.Failing.{driven_counted, driven_failed, driven_whole}

@@ -3,7 +3,7 @@ use Rattle.std.specs.Prelude.{flat_map, string_bytes}
 use Rattle.std.specs.Io.KnownBytes.{Appends}
 use Rattle.td_disk.specs.Disk.{IsDurable, Rises}
 use Rattle.td_gate.specs.Reading.{Each}
-use Rattle.td_journal.specs.declared.submitted.Submitted.{Submitted}
+use Rattle.td_journal.specs.declared.payload.Submitted.{Submitted}
 use Rattle.td_store.specs.declared.standing.error.KeeperError.{KeeperError}
 use Rattle.td_store.specs.declared.standing.error.KeeperError.TheVariants.{Device}
 use Rattle.td_store.specs.standing.Read.{Refused, standing_of}

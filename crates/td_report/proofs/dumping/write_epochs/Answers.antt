@@ -2,7 +2,7 @@ use Rattle.std.proofs.Common.{◌≡◌, ℕ, suc, ◌+◌, ◌<◌, ◌++◌, �
 use Rattle.std.specs.Prelude.{flat_map, string_bytes}
 use Rattle.std.proofs.lemmas.List.{take_more}
 use Rattle.td_gate.specs.Reading.{Each, each_push}
-use Rattle.td_journal.specs.declared.submitted.Submitted.{Submitted}
+use Rattle.td_journal.specs.declared.payload.Submitted.{Submitted}
 use Rattle.td_report.specs.Dumped.{epoch_text, FitsLines}
 use Rattle.td_report.proofs.Pieces.{front_next}
 use Rattle.td_report.proofs.dumping.write_epochs.Goals as goal

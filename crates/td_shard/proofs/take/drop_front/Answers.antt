@@ -1,7 +1,7 @@
 use Rattle.std.proofs.Common.{◌≡◌, ℕ, ◌==◌, ◌&&◌, Bool, true, false, cond, None, get_or, refl, sym, ap, ◌∙◌}
 use Rattle.std.proofs.lemmas.Bool.{eq-eqb, eqb-true}
 use Rattle.std.specs.HashMap.{get}
-use Rattle.td_shard.specs.declared.lane.Lane.{Lane}
+use Rattle.td_shard.specs.declared.runs.Lane.{Lane}
 use Rattle.td_shard.specs.Runs.{lane_eq}
 use Rattle.td_shard.proofs.take.drop_front.Goals as goal
 use Rattle.td_shard.proofs.take.drop_front.Goals.{then-ahead-eq0, else-ahead-eq0}

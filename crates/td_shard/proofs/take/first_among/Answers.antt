@@ -1,7 +1,7 @@
 use Rattle.std.proofs.Common.{◌≡◌, ◌+◌, ◌<◌, ◌≤◌, ℕ, List, [], ◌∷◌, length, get_or, take, pos, refl, sym, ◌∙◌, subst, arith}
 use Rattle.std.specs.List.{AllByRecursion}
 use Rattle.td_machine.specs.declared.records.Message.{Message}
-use Rattle.td_shard.specs.declared.rows.Numbered.{Numbered}
+use Rattle.td_shard.specs.declared.runs.Numbered.{Numbered}
 use Rattle.td_shard.specs.Runs.{Part, all_of}
 use Rattle.td_shard.proofs.Search.{all_next, front_least, front_waits, none_before}
 use Rattle.td_shard.proofs.Tasks.{own_ascends}

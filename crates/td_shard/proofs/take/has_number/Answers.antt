@@ -2,7 +2,7 @@ use Rattle.std.proofs.Common.{◌≡◌, ◌<◌, ◌≤◌, ◌==◌, nat_lt, �
 use Rattle.std.proofs.lemmas.Bool.Decides.{nat_tests}
 use Rattle.td_shard.specs.Order.{at_number, few}
 use Rattle.td_shard.specs.Runs.{Part, AscendIn, its}
-use Rattle.td_shard.specs.declared.rows.Numbered.{Numbered}
+use Rattle.td_shard.specs.declared.runs.Numbered.{Numbered}
 use Rattle.td_shard.proofs.Numbers.{is_equal, is_other}
 use Rattle.td_shard.proofs.Search.{is_there, not_there}
 use Rattle.td_shard.proofs.Tasks.{own_ascends}

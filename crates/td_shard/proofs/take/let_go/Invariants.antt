@@ -1,7 +1,7 @@
 use Rattle.std.proofs.Common.{ℕ, ◌≡◌, ◌+◌, ◌≤◌, length}
 use Rattle.std.specs.Option.{option_map}
 use Rattle.std.specs.HashMap.{get, spare}
-use Rattle.td_shard.specs.declared.lane.Lane.{Lane}
+use Rattle.td_shard.specs.declared.runs.Lane.{Lane}
 use Rattle.td_shard.specs.Runs.{lane_eq, last_on, AreLinked, AreNumbered, all_of}
 use Rattle.td_shard.proofs.take.let_go.Given as goal
 

@@ -1,7 +1,7 @@
 use Rattle.std.proofs.Common.{arith, ◌≡◌, ◌+◌, ◌-◌, ◌<◌, ◌≤◌, ◌++◌, inl, ℕ, suc, true, map, length, take, drop, get_or, vec_len, List, refl, sym, ap, ◌∙◌, append_assoc, length-append, append-nil}
 use Rattle.std.proofs.lemmas.List.{map-append, length-map}
 use Rattle.td_stamp.specs.declared.values.Rec.{Rec}
-use Rattle.td_shard.specs.declared.lane.Lane.{Lane}
+use Rattle.td_shard.specs.declared.runs.Lane.{Lane}
 use Rattle.td_shard.specs.Runs.{Part, rec_of, lane_eq, first_on, ahead_of, AreLinked, changed_at, without_at, lane_recs}
 use Rattle.td_shard.proofs.Lanes.{lane_equiv}
 use Rattle.td_shard.proofs.TakenUp.{nothing, length-changed_at, first-changed_at, linked-changed_at, changed_at-ahead, drop-changed_at, take-append, still, full, skip-recs, first-below, first-same, visit-recs, next_ahead, moved, ended}

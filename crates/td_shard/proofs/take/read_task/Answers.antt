@@ -1,8 +1,8 @@
 use Rattle.std.proofs.Common.{arith, ◌≡◌, ◌-◌, ◌<◌, ◌++◌, ◌∷◌, [], map, length, get_or, take, vec_len, List, refl, sym, ap, ◌∙◌}
 use Rattle.td_stamp.specs.declared.values.Rec.{Rec}
 use Rattle.td_machine.specs.Steps.{coming}
-use Rattle.td_shard.specs.declared.lane.Lane.{Lane}
-use Rattle.td_shard.specs.declared.rows.Numbered.{Numbered}
+use Rattle.td_shard.specs.declared.runs.Lane.{Lane}
+use Rattle.td_shard.specs.declared.runs.Numbered.{Numbered}
 use Rattle.td_shard.specs.Runs.{rec_of, rank, lane_eq, changed_at, without_at, lane_recs}
 use Rattle.td_shard.proofs.Lanes.{lane_equiv}
 use Rattle.td_shard.proofs.OneRun.{one_read}

@@ -1,5 +1,5 @@
 use Rattle.std.proofs.Common.{arith, ◌≡◌, ◌+◌, ◌-◌, ◌<◌, ◌≤◌, ◌++◌, ◌⊎◌, inl, inr, ℕ, suc, true, length, take, drop, get_or, List, refl, sym, ap, ◌∙◌, subst}
-use Rattle.td_shard.specs.declared.lane.Lane.{Lane}
+use Rattle.td_shard.specs.declared.runs.Lane.{Lane}
 use Rattle.td_shard.specs.Runs.{Part, Parts, lane_eq, first_on, ahead_of, AreLinked, all_of, changed_at, without_front, taken_on}
 use Rattle.td_shard.proofs.Lanes.{lane_equiv}
 use Rattle.td_shard.proofs.TakenUp.{nothing, length-changed_at, linked-changed_at, still, full, skip, first-below, first-same, visit, next_ahead, moved, ended, less}

@@ -1,6 +1,6 @@
 use Rattle.std.proofs.Common.{arith, ◌≡◌, ◌<◌, ◌∷◌, map, length, get_or, take, refl, sym, ap, ◌∙◌, subst, length-append}
-use Rattle.td_shard.specs.declared.rows.Numbered.{Numbered}
-use Rattle.td_shard.specs.declared.lane.Lane.{Lane}
+use Rattle.td_shard.specs.declared.runs.Numbered.{Numbered}
+use Rattle.td_shard.specs.declared.runs.Lane.{Lane}
 use Rattle.td_shard.specs.Runs.{Parts, rec_of, rank, on_lane, all_of, lane_eq, AreLinked, changed_at, without_at, taken_on, lane_recs}
 use Rattle.td_shard.proofs.Lanes.{lane_equiv}
 use Rattle.td_shard.proofs.TakenUp.{nothing, linked-changed_at, length-changed_at, changed_at-lane}

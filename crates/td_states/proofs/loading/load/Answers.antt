@@ -1,5 +1,5 @@
 use Rattle.std.proofs.Common.{◌≡◌, true, Some, List, refl, sym, ap, subst}
-use Rattle.td_journal.specs.declared.submitted.Submitted.{Submitted}
+use Rattle.td_journal.specs.declared.payload.Submitted.{Submitted}
 use Rattle.td_journal.specs.Numbers.{rise}
 use Rattle.td_store.specs.declared.standing.error.KeeperError.TheVariants.{NotFormatted}
 use Rattle.td_store.specs.standing.Standing.{Standing, standing_from}

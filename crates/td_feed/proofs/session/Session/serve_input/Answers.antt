@@ -2,7 +2,7 @@ use Rattle.std.proofs.Common.{◌≡◌, ℕ, List, [], true, refl, sym, ap, ◌
 use Rattle.std.specs.Prelude.{Result, All}
 use Rattle.std.proofs.lemmas.Option.{IfSome_then}
 use Rattle.td_plan.specs.Lines.{Line}
-use Rattle.td_journal.specs.declared.submitted.Submitted.{Submitted}
+use Rattle.td_journal.specs.declared.payload.Submitted.{Submitted}
 use Rattle.td_store.specs.declared.standing.error.KeeperError.TheVariants.{Device}
 use Rattle.td_console.specs.declared.faults.Fault.{Fault}
 use Rattle.td_console.specs.declared.faults.Fault.TheVariants.{Keeper}

@@ -3,7 +3,7 @@ use Rattle.std.specs.Prelude.{◌⊎◌, Option, None, option_map, IfSome, IfErr
 use Rattle.td_plan.specs.Lines.{Line}
 use Rattle.td_disk.specs.Disk.{DiskState, Rises, IsDurable}
 use Rattle.td_gate.specs.CrashSafe.{CrashSafe, Unchanged}
-use Rattle.td_journal.specs.declared.submitted.Submitted.{Submitted}
+use Rattle.td_journal.specs.declared.payload.Submitted.{Submitted}
 use Rattle.td_store.specs.declared.standing.error.KeeperError.{KeeperError}
 use Rattle.td_store.specs.standing.Told.{Told}
 use Rattle.td_store.specs.standing.Read.{Refused}

@@ -9,7 +9,7 @@ use Rattle.td_head.specs.Layout.{size_of}
 use Rattle.td_journal.specs.Numbers.{greatest}
 use Rattle.td_journal.specs.declared.error.JournalError.{JournalError as AnyError}
 use Rattle.td_journal.specs.declared.error.JournalError.TheVariants as JournalError
-use Rattle.td_journal.specs.declared.submitted.Submitted.{Submitted}
+use Rattle.td_journal.specs.declared.payload.Submitted.{Submitted}
 use Rattle.td_store.specs.standing.Standing.{standing_from, last_epoch, last_request, with_more}
 use Rattle.td_store.specs.standing.Stops.{Advance, Holds}
 use Rattle.td_store.specs.standing.Told.{ring_of}

@@ -1,10 +1,10 @@
 use Rattle.std.proofs.Common.{◌≡◌, ⊎_elim, inl, inr, Some, Ok, Err, false, List, refl, sym, ap, ◌∙◌, subst}
-use Rattle.td_journal.specs.declared.submitted.Submitted.{Submitted}
+use Rattle.td_journal.specs.declared.payload.Submitted.{Submitted}
 use Rattle.td_store.specs.group.Groups.{AreFresh}
 use Rattle.td_store.specs.declared.standing.error.KeeperError.{KeeperError}
 use Rattle.td_store.specs.declared.standing.error.KeeperError.TheVariants.{Memory, Device}
-use Rattle.td_keeper.specs.declared.group.GroupError.{GroupError}
-use Rattle.td_keeper.specs.declared.group.GroupError.TheVariants.{Keeper as ByKeeper, Repeated}
+use Rattle.td_keeper.specs.declared.submit_all.GroupError.{GroupError}
+use Rattle.td_keeper.specs.declared.submit_all.GroupError.TheVariants.{Keeper as ByKeeper, Repeated}
 use Rattle.td_keeper.specs.Calls.{CrashLeaves}
 use Rattle.td_keeper.specs.Grouped.{AllOrNone}
 use Rattle.td_keeper.specs.Refused.{group_refusal}

@@ -1,5 +1,5 @@
 use Rattle.std.proofs.Common.{◌≡◌, inl, inr, Some, List, [], ◌∷◌, ◌++◌, ap, ◌∙◌, sym, subst, refl, Ok, Err}
-use Rattle.td_journal.specs.declared.submitted.Submitted.{Submitted}
+use Rattle.td_journal.specs.declared.payload.Submitted.{Submitted}
 use Rattle.td_store.specs.standing.Standing.{submission}
 use Rattle.td_store.specs.declared.standing.error.KeeperError.TheVariants.{Memory, Device}
 use Rattle.td_keeper.specs.Calls.{CrashLeaves}

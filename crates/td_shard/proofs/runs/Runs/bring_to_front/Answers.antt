@@ -1,5 +1,5 @@
 use Rattle.std.proofs.Common.{arith, suc, ◌≡◌, ◌+◌, ◌-◌, List, drop, length, sym, ap, ◌∙◌, subst}
-use Rattle.td_shard.specs.declared.rows.Numbered.{Numbered}
+use Rattle.td_shard.specs.declared.runs.Numbered.{Numbered}
 use Rattle.td_shard.specs.Runs.{InOrder, BeginsAt, changed_at, with_first}
 use Rattle.td_shard.proofs.Ordered.{Brought, is_brought, moved_within}
 use Rattle.td_shard.proofs.Placed.{placed, enough, viewed, as_changed}

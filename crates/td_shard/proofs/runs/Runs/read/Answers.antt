@@ -1,5 +1,5 @@
 use Rattle.std.proofs.Common.{arith, ◌≡◌, ◌+◌, ◌-◌, ◌++◌, List, map, take, drop, vec_len, sym, ap, ◌∙◌}
-use Rattle.td_shard.specs.declared.rows.Numbered.{Numbered}
+use Rattle.td_shard.specs.declared.runs.Numbered.{Numbered}
 use Rattle.td_shard.specs.Runs.{Part, rec_of}
 use Rattle.td_shard.proofs.Ordered.{read-part}
 use Rattle.td_shard.proofs.Placed.{placed, enough}

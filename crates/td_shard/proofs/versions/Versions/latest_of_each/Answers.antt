@@ -5,7 +5,7 @@ use Rattle.std.proofs.lemmas.List.Elements.{recursion_from_All}
 use Rattle.td_stamp.specs.Bag.{has}
 use Rattle.td_stamp.specs.Orders.{state_key_cmp}
 use Rattle.td_stamp.specs.States.{same_place}
-use Rattle.td_shard.specs.declared.version.Version.{Version}
+use Rattle.td_shard.specs.declared.versions.Version.{Version}
 use Rattle.td_shard.specs.Versions.{latest, up_to, IsLatestAt}
 use Rattle.td_shard.proofs.LeftBags.{are_apart}
 use Rattle.td_shard.proofs.LatestVersions.{by_look, each_latest, no_version}

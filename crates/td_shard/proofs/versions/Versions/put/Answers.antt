@@ -7,7 +7,7 @@ use Rattle.std.specs.HashMap.{HashMap, PutsEntry}
 use Rattle.td_stamp.specs.States.{same_place}
 use Rattle.td_stamp.specs.Bag.{bag_insert}
 use Rattle.td_machine.specs.State.{left_cmp}
-use Rattle.td_shard.specs.declared.version.Version.{Version}
+use Rattle.td_shard.specs.declared.versions.Version.{Version}
 use Rattle.td_shard.specs.Versions.{AreVersions, left_of, version_cmp}
 use Rattle.td_shard.proofs.LeftBags.{found_by_order, set_by_order}
 use Rattle.td_shard.proofs.KeptVersions.{as_before, one_more, first_one}

@@ -6,7 +6,7 @@ use Rattle.std.proofs.lemmas.Map.Steps.{set_value_same}
 use Rattle.std.proofs.lemmas.Result.{on_ok_weaker, on_err_weaker}
 use Rattle.td_stamp.specs.declared.values.Arrival.{Arrival}
 use Rattle.td_stamp.specs.Groups.{arrival_of}
-use Rattle.td_shard.specs.declared.noted.Noted.{Noted}
+use Rattle.td_shard.specs.declared.waiting.Noted.{Noted}
 use Rattle.td_shard.specs.Asked.{noted_cmp, noted_at, with_items, with_items_by}
 use Rattle.td_shard.proofs.Viewed.{seen, lookup-seen, set-seen, insert-seen}
 use Rattle.td_shard.proofs.waiting.Waiting.wait.Goals as goal

@@ -8,7 +8,7 @@ use Rattle.td_plan.specs.Lines.{Line}
 use Rattle.td_disk.specs.Disk.{IsDurable}
 use Rattle.td_head.specs.Layout.{Sizes}
 use Rattle.td_journal.specs.declared.journal.Journal.{Journal}
-use Rattle.td_journal.specs.declared.submitted.Submitted.{Submitted}
+use Rattle.td_journal.specs.declared.payload.Submitted.{Submitted}
 use Rattle.td_journal.specs.Cell.{is_batch}
 use Rattle.td_journal.specs.Numbers.{rise}
 use Rattle.td_store.specs.standing.Standing.{Standing, with_more}

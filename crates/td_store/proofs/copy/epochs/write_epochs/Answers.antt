@@ -4,7 +4,7 @@ use Rattle.std.proofs.lemmas.List.Elements.{All-get_or}
 use Rattle.td_gate.specs.Region.{opened}
 use Rattle.td_gate.specs.Regions.{Replaces}
 use Rattle.td_journal.specs.declared.journal.Journal.{Journal}
-use Rattle.td_journal.specs.declared.submitted.Submitted.{Submitted}
+use Rattle.td_journal.specs.declared.payload.Submitted.{Submitted}
 use Rattle.td_journal.specs.Cell.{cell_of, cell_bytes, is_batch, IsCellBatch}
 use Rattle.td_journal.specs.Images.{NothingFollows}
 use Rattle.td_store.specs.standing.Standing.{Standing, with_more}

@@ -3,7 +3,7 @@ use Rattle.std.specs.Prelude.{All}
 use Rattle.td_journal.specs.declared.journal.Journal.{Journal}
 use Rattle.td_journal.specs.Cell.{is_batch}
 use Rattle.td_journal.specs.Numbers.{rise}
-use Rattle.td_journal.specs.declared.submitted.Submitted.{Submitted}
+use Rattle.td_journal.specs.declared.payload.Submitted.{Submitted}
 use Rattle.td_store.specs.standing.Standing.{standing_from}
 use Rattle.td_store.specs.standing.Told.{inputs_of}
 use Rattle.td_store.specs.copy.Copied.{AreClosedAfter, HasParts}

@@ -1,7 +1,7 @@
 use Rattle.std.proofs.Common.{◌≡◌, ◌⊎◌, ◌&&◌, Bool, true, false, List, [], ◌∷◌, length, refl, sym, ap, ◌∙◌, subst, arith}
 use Rattle.td_journal.specs.Cell.{is_batch}
 use Rattle.td_journal.specs.Numbers.{may_come}
-use Rattle.td_journal.specs.declared.submitted.Submitted.{Submitted}
+use Rattle.td_journal.specs.declared.payload.Submitted.{Submitted}
 use Rattle.td_store.specs.standing.Standing.{with_more, last_request}
 use Rattle.td_store.specs.standing.Told.{inputs_of, floor_of}
 use Rattle.td_store.specs.standing.Tells.{Tells, Keeps, HasRoom}

@@ -5,7 +5,7 @@ use Rattle.td_head.specs.declared.head.Head.{Head}
 use Rattle.td_head.specs.Layout.{head as head_of_side}
 use Rattle.td_head.specs.Head.{is_version, raised_bytes}
 use Rattle.td_slots.specs.Slot.{slot, is_last}
-use Rattle.td_journal.specs.declared.submitted.Submitted.{Submitted}
+use Rattle.td_journal.specs.declared.payload.Submitted.{Submitted}
 use Rattle.td_journal.specs.Ring.{told_after}
 use Rattle.td_store.specs.standing.Standing.{Standing}
 use Rattle.td_store.specs.standing.Told.{inputs_of, folds_of, slots_of, ring_of, floor_of}

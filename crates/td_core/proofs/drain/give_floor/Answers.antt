@@ -1,0 +1,112 @@
+use Rattle.std.proofs.Common.{◌≤◌, sym, subst}
+use Rattle.td_reach.specs.declared.stamp.Stamp.{Stamp}
+use Rattle.td_progress.specs.Bag.{occurrences}
+use Rattle.td_machine.specs.InOrder.{OneAShard}
+use Rattle.td_machine.specs.Moves.{gone_given}
+use Rattle.td_machine.specs.State.{Task}
+use Rattle.td_core.specs.Floor.{state_of}
+use Rattle.td_core.specs.Given.{IsEnded}
+use Rattle.td_core.proofs.DeliverSteps.{DeliverLaws}
+use Rattle.td_core.proofs.GiveFloor.{out_still, more_given, enough, stepped, kept}
+use Rattle.td_core.proofs.GiveSteps.{among}
+use Rattle.td_core.proofs.NotifySteps.{NotifyLaws}
+use Rattle.td_core.proofs.drain.give_floor.Goals as goal
+
+pub end-requires-clause-one_a_shard : goal.end-requires-clause-one_a_shard
+end-requires-clause-one_a_shard g c =
+    let laws : DeliverLaws g.L.Law.answers = record {
+      messages = c.bags_of_states.ensures.messages;
+      notifications = c.bags_of_states.ensures.notifications;
+      times = c.time_list_order.ensures.told_apart;
+      at_once = c.delivered_at_once.ensures;
+      outputs = c.in_parts.ensures.outputs;
+      asks = c.in_parts.ensures.asked;
+      tasks = c.reached_in_order.ensures.tasks;
+      numbers = c.reached_in_order.ensures.numbers;
+      step = c.reached.ensures.step;
+      moves = c.stamps_move.ensures;
+      append = c.counted.ensures.append;
+    } in
+    let waits : NotifyLaws = record { messages = c.bags_of_states.ensures.messages; place = c.what_waits.ensures.place; asked = c.what_waits.ensures.asked } in
+    let out = among c.args.floor.now.out.items c.args.place c.args.done.now c.requires.there in
+    subst (λ v. OneAShard v.items)
+    (sym (out_still g.L.Law.answers laws waits c.args.floor.now c.answer.new.floor c.args.done.now out c.requires.hall c.in_ok-answer.ensures.ok)) (c.reached_in_order.ensures.tasks _ c.requires.hall.reached).one_a_shard
+
+pub end-requires-clause-active : goal.end-requires-clause-active
+end-requires-clause-active g c =
+    let laws : DeliverLaws g.L.Law.answers = record {
+      messages = c.bags_of_states.ensures.messages;
+      notifications = c.bags_of_states.ensures.notifications;
+      times = c.time_list_order.ensures.told_apart;
+      at_once = c.delivered_at_once.ensures;
+      outputs = c.in_parts.ensures.outputs;
+      asks = c.in_parts.ensures.asked;
+      tasks = c.reached_in_order.ensures.tasks;
+      numbers = c.reached_in_order.ensures.numbers;
+      step = c.reached.ensures.step;
+      moves = c.stamps_move.ensures;
+      append = c.counted.ensures.append;
+    } in
+    let waits : NotifyLaws = record { messages = c.bags_of_states.ensures.messages; place = c.what_waits.ensures.place; asked = c.what_waits.ensures.asked } in
+    let out = among c.args.floor.now.out.items c.args.place c.args.done.now c.requires.there in
+    subst (λ (t : Task). (p : Stamp) → occurrences p (gone_given (state_of c.answer.new.floor) t t.content) ≤ occurrences p c.answer.new.floor.table.stamps) (sym c.task.ensures)
+    (enough g.L.Law.answers laws waits c.args.floor.now c.answer.new.floor c.args.done.now out c.requires.hall c.in_ok-answer.ensures.ok)
+
+pub end-requires-clause-given : goal.end-requires-clause-given
+end-requires-clause-given g c =
+    let laws : DeliverLaws g.L.Law.answers = record {
+      messages = c.bags_of_states.ensures.messages;
+      notifications = c.bags_of_states.ensures.notifications;
+      times = c.time_list_order.ensures.told_apart;
+      at_once = c.delivered_at_once.ensures;
+      outputs = c.in_parts.ensures.outputs;
+      asks = c.in_parts.ensures.asked;
+      tasks = c.reached_in_order.ensures.tasks;
+      numbers = c.reached_in_order.ensures.numbers;
+      step = c.reached.ensures.step;
+      moves = c.stamps_move.ensures;
+      append = c.counted.ensures.append;
+    } in
+    let waits : NotifyLaws = record { messages = c.bags_of_states.ensures.messages; place = c.what_waits.ensures.place; asked = c.what_waits.ensures.asked } in
+    let out = among c.args.floor.now.out.items c.args.place c.args.done.now c.requires.there in
+    more_given g.L.Law.answers laws waits c.args.floor.now c.answer.new.floor c.args.done.now out c.requires.hall c.in_ok-answer.ensures.ok
+
+pub returns-clause-state : goal.returns-clause-state
+returns-clause-state g c =
+    let laws : DeliverLaws g.L.Law.answers = record {
+      messages = c.bags_of_states.ensures.messages;
+      notifications = c.bags_of_states.ensures.notifications;
+      times = c.time_list_order.ensures.told_apart;
+      at_once = c.delivered_at_once.ensures;
+      outputs = c.in_parts.ensures.outputs;
+      asks = c.in_parts.ensures.asked;
+      tasks = c.reached_in_order.ensures.tasks;
+      numbers = c.reached_in_order.ensures.numbers;
+      step = c.reached.ensures.step;
+      moves = c.stamps_move.ensures;
+      append = c.counted.ensures.append;
+    } in
+    let waits : NotifyLaws = record { messages = c.bags_of_states.ensures.messages; place = c.what_waits.ensures.place; asked = c.what_waits.ensures.asked } in
+    let out = among c.args.floor.now.out.items c.args.place c.args.done.now c.requires.there in
+    stepped g.L.Law.answers laws waits c.args.floor.now c.answer.new.floor c.args.done.now out c.requires.hall c.in_ok-answer.ensures.ok
+    c.end.new.floor (subst (λ (t : Task). IsEnded t c.answer.new.floor c.end.new.floor) c.task.ensures c.end.ensures)
+
+pub returns-clause-hall : goal.returns-clause-hall
+returns-clause-hall g c =
+    let laws : DeliverLaws g.L.Law.answers = record {
+      messages = c.bags_of_states.ensures.messages;
+      notifications = c.bags_of_states.ensures.notifications;
+      times = c.time_list_order.ensures.told_apart;
+      at_once = c.delivered_at_once.ensures;
+      outputs = c.in_parts.ensures.outputs;
+      asks = c.in_parts.ensures.asked;
+      tasks = c.reached_in_order.ensures.tasks;
+      numbers = c.reached_in_order.ensures.numbers;
+      step = c.reached.ensures.step;
+      moves = c.stamps_move.ensures;
+      append = c.counted.ensures.append;
+    } in
+    let waits : NotifyLaws = record { messages = c.bags_of_states.ensures.messages; place = c.what_waits.ensures.place; asked = c.what_waits.ensures.asked } in
+    let out = among c.args.floor.now.out.items c.args.place c.args.done.now c.requires.there in
+    kept g.L.Law.answers laws waits c.args.floor.now c.answer.new.floor c.args.done.now out c.requires.hall c.in_ok-answer.ensures.ok
+    c.end.new.floor (subst (λ (t : Task). IsEnded t c.answer.new.floor c.end.new.floor) c.task.ensures c.end.ensures)

@@ -1,5 +1,0 @@
-use Rattle.std.proofs.Common.{rules}
-use Rattle.td_shard.proofs.version.Version.total_cmp.Goals as goal
-
-pub returns : goal.returns
-returns c = search rules

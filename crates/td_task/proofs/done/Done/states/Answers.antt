@@ -1,5 +1,0 @@
-use Rattle.std.proofs.Common.{rules}
-use Rattle.td_task.proofs.done.Done.states.Goals as goal
-
-pub returns : goal.returns
-returns g c = search rules
