@@ -50,15 +50,12 @@ SPACE, CODE, PIECE, GROUP, POWER = "the code of a blank", "the code of a closure
 CELLS = "the bytes that the cells of a group take at most"
 PLACES = {
     LIMIT: [
-        "td_store/src/group/cells.rt: 65536, 3",
+        "td_store/src/group/cells.rt: 65536, 2",
         "td_journal/specs/Steps.antt: 65536, 2",
         "td_journal/src/journal.rt: 65536, 1",
         "td_journal/src/payload.rt: 65536, 2",
         "td_slots/src/payload.rt: 1048576, 1",
         "td_slots/specs/Steps.antt: 1048576, 1",
-        "td_slots/src/slots.rt: 1048576, 2",
-        "td_store/src/standing/parts.rt: 1048576, 1",
-        "td_store/src/standing/parts.rt: 65536, 2",
     ],
     WHERE: [
         "td_store/src/copy/epochs.rt: 8258, 3",

@@ -5,8 +5,6 @@ use td_core::HallError;
 use td_disk::{Fault, MakeError};
 use td_gate::GateError;
 use td_journal::JournalError;
-use td_progress::ProgressError;
-use td_reach::ReachError;
 use td_stamp::StampError;
 use td_store::standing::KeeperError;
 use td_task::TaskError;
@@ -111,18 +109,6 @@ impl From<JournalError> for StepError {
 /// A disk in memory that was made for this fails where its record of calls may not grow.
 impl From<Fault> for StepError {
     fn from(_fault: Fault) -> StepError {
-        StepError::Memory
-    }
-}
-
-impl From<ReachError> for StepError {
-    fn from(_error: ReachError) -> StepError {
-        StepError::Memory
-    }
-}
-
-impl From<ProgressError> for StepError {
-    fn from(_error: ProgressError) -> StepError {
         StepError::Memory
     }
 }

@@ -1,7 +1,6 @@
 //! Calls of a ring of cells, each with its answer.
-ghost use Rattle.std.specs.Prelude.{◌+◌, ◌<◌, ◌≤◌, IsTrue};
-ghost use Rattle.td_journal.specs.Cell.{ring_len};
-ghost use Rattle.td_journal.specs.Steps.{IsRing};
+ghost use Rattle.std.specs.Prelude.{◌<◌, ◌≤◌, IsTrue};
+ghost use Rattle.td_journal.specs.Steps.{HasRing};
 
 use crate::error::StepError;
 use crate::inputs::inputs_of;
@@ -109,9 +108,8 @@ fn checkpoint_of(words: &str) -> Option<(u64, Option<u64>)> {
 
 /// Whether the numbers of a ring keep their limits, and a disk has all of its cells.
 fn has_ring<D: Disk>(device: &D, ring: Journal) -> bool
-    ensures ring { IsTrue result → IsRing ring }
+    ensures ring { IsTrue result → HasRing ring (D.view device.now).capacity }
     ensures few { IsTrue result → ring.n ≤ 65536 }
-    ensures room { IsTrue result → ring.at + ring_len ring.m ring.n ≤ (D.view device.now).capacity }
 {
     if ring.n == 0 || ring.n > 65_536 || ring.m > 65_536 {
         return false;

@@ -20,11 +20,7 @@ impl Law for Visits {
 }
 
 impl Closures<Visits> for Visits {
-    ghost has_map = { λ _ _. false };
-
-    ghost has_group = { λ _ _. false };
-
-    ghost has_fold = { λ _ code. code == 1 };
+    ghost stored = { λ _. record { map = λ _. false; group = λ _. false; fold = λ code. code == 1 } };
 
     fn map(&self, _code: u16, _port: u8, _rec: Rec) -> Option<Few> {
         None

@@ -9,13 +9,9 @@ pub(crate) struct Catalogue {
 }
 
 impl Closures<Stock> for Catalogue {
-    ghost use Rattle.feed_steps.specs.Codes.{has_map, has_group, has_fold};
+    ghost use Rattle.feed_steps.specs.Codes.{codes};
 
-    ghost has_map = { has_map };
-
-    ghost has_group = { has_group };
-
-    ghost has_fold = { has_fold };
+    ghost stored = { codes };
 
     fn map(&self, code: u16, port: u8, rec: Rec) -> Option<Few> {
         match code {

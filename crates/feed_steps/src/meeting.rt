@@ -55,13 +55,9 @@ impl Meeting {
 }
 
 impl Closures<Stock> for Meeting {
-    ghost use Rattle.feed_steps.specs.Codes.{has_meeting_map, has_no_code};
+    ghost use Rattle.feed_steps.specs.Codes.{meeting_codes};
 
-    ghost has_map = { has_meeting_map };
-
-    ghost has_group = { has_no_code };
-
-    ghost has_fold = { has_no_code };
+    ghost stored = { meeting_codes };
 
     fn map(&self, code: u16, port: u8, rec: Rec) -> Option<Few> {
         if code != 1 {

@@ -12,6 +12,7 @@ use Rattle.td_plan.specs.Faults.{is_output}
 use Rattle.td_plan.specs.Tree.{Nodes, size}
 use Rattle.td_plan.specs.Tree.Nodes.{done, node, block}
 use Rattle.td_calls.specs.Callbacks.{arrivals}
+use Rattle.td_calls.specs.Stored.{Codes}
 use Rattle.td_batch.specs.declared.changes.Change.{Change}
 use Rattle.td_batch.specs.Meaning.{EpochInput, Bags, emitted, emission, turn, epoch_bags, outputs_at, outputs_in}
 use Rattle.td_batch.specs.Quiet.{fed_back_by, fed_back}
@@ -58,39 +59,39 @@ all_outputs bag v Leave e = absurd (cc)
 all_outputs bag v Output e = refl
 
 -- The vertices that are left, the bags that are kept for them, and what was brought so far; `exact` are all bags so far
-pub record Going (epoch : EpochInput) (maps groups folds : ℕ → Bool) (all left : Nodes) (bags : Bags) (outputs : List AnyOutput) (changes : List Change) : Type 0 where
+pub record Going (epoch : EpochInput) (stored : Codes) (all left : Nodes) (bags : Bags) (outputs : List AnyOutput) (changes : List Change) : Type 0 where
   pub exact : Bags
   pub long : length bags ≡ length exact
   pub alike : AreAlike (reads true left) bags exact
   pub ends : turn epoch left None exact ≡ epoch_bags epoch all
-  pub lawful : IsOuter maps groups folds (length bags) left
+  pub lawful : IsOuter stored (length bags) left
   pub outs : outputs ++ outputs_in (emitted (epoch_bags epoch all)) left ≡ outputs_in (emitted (epoch_bags epoch all)) all
   pub changed : changes ++ changes_from epoch left exact ≡ epoch_changes epoch all
 
-pub begins : (epoch : EpochInput) (maps groups folds : ℕ → Bool) (all : Nodes) (bags : Bags) (outputs : List AnyOutput) (changes : List Change)
-    → IsOuter maps groups folds 0 all → bags ≡ [] → outputs ≡ [] → changes ≡ [] → Going epoch maps groups folds all all bags outputs changes
-begins epoch maps groups folds all bags outputs changes lawful none no_outputs no_changes = record {
+pub begins : (epoch : EpochInput) (stored : Codes) (all : Nodes) (bags : Bags) (outputs : List AnyOutput) (changes : List Change)
+    → IsOuter stored 0 all → bags ≡ [] → outputs ≡ [] → changes ≡ [] → Going epoch stored all all bags outputs changes
+begins epoch stored all bags outputs changes lawful none no_outputs no_changes = record {
   exact = [];
   long = ap length none;
   alike = alike_same (reads true all) bags [] none;
   ends = refl;
-  lawful = subst (λ (bs : Bags). IsOuter maps groups folds (length bs) all) (sym none) lawful;
+  lawful = subst (λ (bs : Bags). IsOuter stored (length bs) all) (sym none) lawful;
   outs = ap (λ os. os ++ outputs_in (emitted (epoch_bags epoch all)) all) no_outputs;
   changed = ap (λ cs. cs ++ epoch_changes epoch all) no_changes;
 }
 
-module _ (epoch : EpochInput) (maps groups folds : ℕ → Bool) (all rest : Nodes) (v : Vertex) (bags more : Bags) (outputs now : List AnyOutput) (changes made : List Change) where
+module _ (epoch : EpochInput) (stored : Codes) (all rest : Nodes) (v : Vertex) (bags more : Bags) (outputs now : List AnyOutput) (changes made : List Change) where
   -- past a vertex
-  pub past : Going epoch maps groups folds all (node v rest) bags outputs changes → length more ≡ length bags + 1 → AreAlike (reads true rest) more (bags ++ emission epoch None bags v ∷ [])
+  pub past : Going epoch stored all (node v rest) bags outputs changes → length more ≡ length bags + 1 → AreAlike (reads true rest) more (bags ++ emission epoch None bags v ∷ [])
       → now ≡ outputs ++ outputs_at (λ _. emission epoch None bags v) v v.kind
-      → made ≡ changes ++ changes_by epoch.answers (state_of epoch.states v.number) v.number v.kind (arrivals (map (emitted bags) v.sources)) → Going epoch maps groups folds all rest more now made
+      → made ≡ changes ++ changes_by epoch.answers (state_of epoch.states v.number) v.number v.kind (arrivals (map (emitted bags) v.sources)) → Going epoch stored all rest more now made
   past g longer kept put changed = record {
     exact = exact ++ sent ∷ [];
     long = longer ∙ ap (λ n. n + 1) g.long ∙ sym (length_push exact sent);
     alike = alike_then (reads true rest) more (bags ++ emission epoch None bags v ∷ []) (exact ++ sent ∷ []) kept
         (alike_push (reads true rest) bags exact (emission epoch None bags v) sent g.long is (all_right P (read_by true v.kind v.sources) (reads true rest) g.alike));
     ends = g.ends;
-    lawful = subst (λ n. IsOuter maps groups folds n rest) (sym longer) g.lawful.2;
+    lawful = subst (λ n. IsOuter stored n rest) (sym longer) g.lawful.2;
     outs = ap (λ os. os ++ outputs_in last rest) put ∙ append_assoc outputs (outputs_at (λ _. emission epoch None bags v) v v.kind) (outputs_in last rest)
         ∙ ap (λ os. outputs ++ (os ++ outputs_in last rest)) (sym (output_emitted v v.kind last (λ _. emission epoch None bags v) emitted_here)) ∙ g.outs;
     changed = ap (λ cs. cs ++ later) changed ∙ append_assoc changes (by (emitted bags)) later
@@ -142,17 +143,17 @@ module _ (epoch : EpochInput) (maps groups folds : ℕ → Bool) (all rest : Nod
       by_alike Output a = refl
 
 -- past a loop
-pub past_loop : (epoch : EpochInput) (maps groups folds : ℕ → Bool) (all body rest : Nodes) (bound : ℕ) (bags more : Bags) (outputs : List AnyOutput) (changes : List Change)
-    → Going epoch maps groups folds all (block bound body rest) bags outputs changes → length more ≡ length bags + size body
-    → AreAlike (reads true rest) more (bags ++ loop_bags epoch bound body bags) → Going epoch maps groups folds all rest more outputs changes
-past_loop epoch maps groups folds all body rest bound bags more outputs changes g longer kept = record {
+pub past_loop : (epoch : EpochInput) (stored : Codes) (all body rest : Nodes) (bound : ℕ) (bags more : Bags) (outputs : List AnyOutput) (changes : List Change)
+    → Going epoch stored all (block bound body rest) bags outputs changes → length more ≡ length bags + size body
+    → AreAlike (reads true rest) more (bags ++ loop_bags epoch bound body bags) → Going epoch stored all rest more outputs changes
+past_loop epoch stored all body rest bound bags more outputs changes g longer kept = record {
   exact = g.exact ++ loop_bags epoch bound body g.exact;
   long = longer ∙ ap (λ n. n + size body) g.long ∙ sym (length-append g.exact (loop_bags epoch bound body g.exact) ∙ ap (λ n. length g.exact + n) (length-loop_bags epoch bound body g.exact));
   alike = alike_then (reads true rest) more (bags ++ loop_bags epoch bound body bags) (g.exact ++ loop_bags epoch bound body g.exact) kept
       (turn_alike epoch (block bound body done) (reads true rest) None None bags g.exact g.long tt
       (all_append P inner [] (all_left P inner (reads true rest) g.alike) tt) (all_right P inner (reads true rest) g.alike) tt);
   ends = g.ends;
-  lawful = subst (λ n. IsOuter maps groups folds n rest) (sym longer) g.lawful.3;
+  lawful = subst (λ n. IsOuter stored n rest) (sym longer) g.lawful.3;
   outs = g.outs;
   changed = g.changed;
 }
@@ -164,6 +165,6 @@ past_loop epoch maps groups folds all body rest bound bags more outputs changes 
     inner = reads true body ++ fed_back body
 
 -- at the end
-pub ends : (epoch : EpochInput) (maps groups folds : ℕ → Bool) (all : Nodes) (bags : Bags) (outputs : List AnyOutput) (changes : List Change) → Going epoch maps groups folds all done bags outputs changes
+pub ends : (epoch : EpochInput) (stored : Codes) (all : Nodes) (bags : Bags) (outputs : List AnyOutput) (changes : List Change) → Going epoch stored all done bags outputs changes
     → (outputs ≡ outputs_in (emitted (epoch_bags epoch all)) all) × (changes ≡ epoch_changes epoch all)
-ends epoch maps groups folds all bags outputs changes g = (sym (append-nil outputs) ∙ g.outs, sym (append-nil changes) ∙ g.changed)
+ends epoch stored all bags outputs changes g = (sym (append-nil outputs) ∙ g.outs, sym (append-nil changes) ∙ g.changed)

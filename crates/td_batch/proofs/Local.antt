@@ -22,6 +22,7 @@ use Rattle.td_calls.specs.declared.error.CallsError.{CallsError}
 use Rattle.td_calls.specs.declared.error.CallsError.TheVariants.{NoCall}
 use Rattle.td_calls.specs.Fits.{lacking_code, first_lack}
 use Rattle.td_calls.specs.Callbacks.{arrivals, on_notification}
+use Rattle.td_calls.specs.Stored.{Codes}
 use Rattle.td_batch.specs.declared.changes.Change.{Change}
 use Rattle.td_batch.specs.Meaning.{EpochInput, Bags, emitted, answer, emission, bags_read, turn, turns, over_turns, epoch_result, outputs_in, with_kept, states_by, states_in}
 use Rattle.td_batch.specs.Changes.{changes_by, changes_from, epoch_changes, with_change, from_states, AgreeAt}
@@ -55,13 +56,13 @@ changes_are epoch v Leave arrived states = refl
 changes_are epoch v Output arrived states = refl
 
 -- WHAT IS KEPT: the changes of all vertices are what the definition makes of the states
-kept_from : (epoch : EpochInput) (maps groups folds : ℕ → Bool) (nodes : Nodes) (bags : Bags) (states : StateList) → IsOuter maps groups folds (length bags) nodes
+kept_from : (epoch : EpochInput) (stored : Codes) (nodes : Nodes) (bags : Bags) (states : StateList) → IsOuter stored (length bags) nodes
     → fold with_change states (changes_from epoch nodes bags) ≡ states_in epoch (emitted (turn epoch nodes None bags)) nodes states
-kept_from epoch maps groups folds done bags states lawful = refl
-kept_from epoch maps groups folds (node v rest) bags states lawful =
+kept_from epoch stored done bags states lawful = refl
+kept_from epoch stored (node v rest) bags states lawful =
     fold_append states (here (emitted bags)) (changes_from epoch rest more)
     ∙ ap (λ s. fold with_change s (changes_from epoch rest more)) (changes_are epoch v v.kind (arrivals (map (emitted bags) v.sources)) states)
-    ∙ kept_from epoch maps groups folds rest more (states_by epoch v v.kind (arrivals (map (emitted bags) v.sources)) states) (subst (λ n. IsOuter maps groups folds n rest) (sym longer) lawful.2)
+    ∙ kept_from epoch stored rest more (states_by epoch v v.kind (arrivals (map (emitted bags) v.sources)) states) (subst (λ n. IsOuter stored n rest) (sym longer) lawful.2)
     ∙ ap (λ bs. states_in epoch last rest (states_by epoch v v.kind (arrivals bs) states)) (map_alike (emitted bags) last v.sources (read_last v.sources lawful.1))
   where
     here : (ℕ → List Rec) → List Change
@@ -83,13 +84,13 @@ kept_from epoch maps groups folds (node v rest) bags states lawful =
         let long : length more ≡ length bags + 1 = longer in
         let stays : last s ≡ emitted bags s = turn_keeps epoch rest None more s (omega (arith, l, long)) ∙ get_or_append_left bags (emission epoch None bags v ∷ []) [] s l in
         (sym stays, read_last sources b.1)
-kept_from epoch maps groups folds (block bound body rest) bags states lawful =
-    kept_from epoch maps groups folds rest (bags ++ loop_bags epoch bound body bags) states
-    (subst (λ n. IsOuter maps groups folds n rest) (sym (length-append bags (loop_bags epoch bound body bags) ∙ ap (λ n. length bags + n) (length-loop_bags epoch bound body bags))) lawful.3)
+kept_from epoch stored (block bound body rest) bags states lawful =
+    kept_from epoch stored rest (bags ++ loop_bags epoch bound body bags) states
+    (subst (λ n. IsOuter stored n rest) (sym (length-append bags (loop_bags epoch bound body bags) ∙ ap (λ n. length bags + n) (length-loop_bags epoch bound body bags))) lawful.3)
 
-pub changes_are_kept : (epoch : EpochInput) (maps groups folds : ℕ → Bool) (nodes : Nodes) → IsOuter maps groups folds 0 nodes
+pub changes_are_kept : (epoch : EpochInput) (stored : Codes) (nodes : Nodes) → IsOuter stored 0 nodes
     → fold with_change epoch.states (epoch_changes epoch nodes) ≡ (epoch_result epoch nodes).states
-changes_are_kept epoch maps groups folds nodes lawful = kept_from epoch maps groups folds nodes [] epoch.states lawful
+changes_are_kept epoch stored nodes lawful = kept_from epoch stored nodes [] epoch.states lawful
 
 -- THE SAME FROM OTHER STATES
 module _ (epoch : EpochInput) (others : StateList) where
@@ -188,16 +189,19 @@ module _ (epoch : EpochInput) (others : StateList) where
       let later = from_alike rest (bags ++ loop_bags epoch bound body bags) s.3 h in
       (ap (λ more. turn other rest None (bags ++ more)) loops ∙ later.0, ap (λ more. changes_from other rest (bags ++ more)) loops ∙ later.1)
 
-  epoch_alike : (nodes : Nodes) → StandsWell false nodes → ((maps groups folds : ℕ → Bool) × IsOuter maps groups folds 0 nodes) → AgreeAt (epoch_changes epoch nodes) epoch.states others
+  epoch_alike : (nodes : Nodes) → StandsWell false nodes → ((stored : Codes) × IsOuter stored 0 nodes) → AgreeAt (epoch_changes epoch nodes) epoch.states others
       → ((epoch_result other nodes).outs ≡ (epoch_result epoch nodes).outs) × ((epoch_result other nodes).states ≡ fold with_change others (epoch_changes epoch nodes))
   epoch_alike nodes s outer h =
       let is = from_alike nodes [] s h in (
         ap (λ bags. bag_of output_cmp (outputs_in (emitted bags) nodes)) is.0,
-        sym (changes_are_kept other outer.0 outer.1 outer.2 nodes outer.3) ∙ ap (fold with_change others) is.1,
+        sym (changes_are_kept other outer.0 nodes outer.1) ∙ ap (fold with_change others) is.1,
       )
 
 -- closures of all codes are stored for every plan
-no_lack : (kind : Kind) → lacking_code (λ _. true) (λ _. true) (λ _. true) kind ≡ None
+abbrev all_codes : Codes
+all_codes = record { map = λ _. true; group = λ _. true; fold = λ _. true }
+
+no_lack : (kind : Kind) → lacking_code all_codes kind ≡ None
 no_lack (Map code) = refl
 no_lack (Group code) = refl
 no_lack (Fold code) = refl
@@ -208,12 +212,12 @@ no_lack Feedback = refl
 no_lack Leave = refl
 no_lack Output = refl
 
-all_fit : (ps : List PlacedVertex) → first_lack (λ _. true) (λ _. true) (λ _. true) ps ≡ None
+all_fit : (ps : List PlacedVertex) → first_lack all_codes ps ≡ None
 all_fit [] = refl
-all_fit (p ∷ ps) = step (lacking_code (λ _. true) (λ _. true) (λ _. true) p.vertex.kind) (no_lack p.vertex.kind) (all_fit ps)
+all_fit (p ∷ ps) = step (lacking_code all_codes p.vertex.kind) (no_lack p.vertex.kind) (all_fit ps)
   where
-    step : (o : Option ℕ) → o ≡ None → first_lack (λ _. true) (λ _. true) (λ _. true) ps ≡ None
-        → ◌≡◌ {A = Option CallsError} (elim o [ None ↦ first_lack (λ _. true) (λ _. true) (λ _. true) ps | Some code ↦ Some (NoCall p.vertex.number code) ]) None
+    step : (o : Option ℕ) → o ≡ None → first_lack all_codes ps ≡ None
+        → ◌≡◌ {A = Option CallsError} (elim o [ None ↦ first_lack all_codes ps | Some code ↦ Some (NoCall p.vertex.number code) ]) None
     step None e rest = rest
     step (Some code) e rest = absurd (cc)
 
@@ -221,5 +225,5 @@ pub placed_alike : (epoch : EpochInput) (others : StateList) (nodes : Nodes) →
     → ((epoch_result (from_states epoch others) nodes).outs ≡ (epoch_result epoch nodes).outs) × ((epoch_result (from_states epoch others) nodes).states ≡ fold with_change others (epoch_changes epoch nodes))
 placed_alike epoch others nodes placed stands h =
     epoch_alike epoch others nodes stands
-    ((λ _. true), (λ _. true), (λ _. true), tree_is_outer (λ _. true) (λ _. true) (λ _. true) nodes placed stands (all_fit (placed_in [] 0 nodes)))
+    (all_codes, tree_is_outer all_codes nodes placed stands (all_fit (placed_in [] 0 nodes)))
     h

@@ -14,6 +14,7 @@ use Rattle.td_plan.specs.Standing.{may_stand, StandsWell}
 use Rattle.td_calls.specs.declared.error.CallsError.{CallsError}
 use Rattle.td_calls.specs.declared.error.CallsError.TheVariants.{NoCall}
 use Rattle.td_calls.specs.Fits.{lacking_code, first_lack}
+use Rattle.td_calls.specs.Stored.{Codes}
 use Rattle.td_batch.specs.Quiet.{HasNoInputs, IsLoopBody}
 use Rattle.td_batch.specs.Steps.Epoch.{IsInner, IsOuter}
 use Rattle.td_batch.proofs.Lists.{AreAmong, pick, all_append, all_map}
@@ -48,26 +49,26 @@ leaves_below (node v rest) all outer own n high h p =
 leaves_below (block bound body rest) all outer own n high h p = leaves_below rest all outer (own ++ leaves_of body) (n + size body) high (omega arith) p.1
 
 -- the vertices that lack no closure
-module _ (maps groups folds : ℕ → Bool) where
-  first_fits : (p : PlacedVertex) (ps : List PlacedVertex) → first_lack maps groups folds (p ∷ ps) ≡ None
-      → (lacking_code maps groups folds p.vertex.kind ≡ None) × (first_lack maps groups folds ps ≡ None)
-  first_fits p ps e = by (lacking_code maps groups folds p.vertex.kind) refl e
+module _ (stored : Codes) where
+  first_fits : (p : PlacedVertex) (ps : List PlacedVertex) → first_lack stored (p ∷ ps) ≡ None
+      → (lacking_code stored p.vertex.kind ≡ None) × (first_lack stored ps ≡ None)
+  first_fits p ps e = by (lacking_code stored p.vertex.kind) refl e
     where
-      by : (o : Option ℕ) → lacking_code maps groups folds p.vertex.kind ≡ o
-          → ◌≡◌ {A = Option CallsError} (elim o [ None ↦ first_lack maps groups folds ps | Some code ↦ Some (NoCall p.vertex.number code) ]) None
-          → (lacking_code maps groups folds p.vertex.kind ≡ None) × (first_lack maps groups folds ps ≡ None)
+      by : (o : Option ℕ) → lacking_code stored p.vertex.kind ≡ o
+          → ◌≡◌ {A = Option CallsError} (elim o [ None ↦ first_lack stored ps | Some code ↦ Some (NoCall p.vertex.number code) ]) None
+          → (lacking_code stored p.vertex.kind ≡ None) × (first_lack stored ps ≡ None)
       by None f e = (f, e)
       by (Some code) f e = absurd (cc)
 
-  both_fit : (ps qs : List PlacedVertex) → first_lack maps groups folds (ps ++ qs) ≡ None → (first_lack maps groups folds ps ≡ None) × (first_lack maps groups folds qs ≡ None)
+  both_fit : (ps qs : List PlacedVertex) → first_lack stored (ps ++ qs) ≡ None → (first_lack stored ps ≡ None) × (first_lack stored qs ≡ None)
   both_fit [] qs e = (refl, e)
-  both_fit (p ∷ ps) qs e = by (lacking_code maps groups folds p.vertex.kind) (both_fit ps qs) e
+  both_fit (p ∷ ps) qs e = by (lacking_code stored p.vertex.kind) (both_fit ps qs) e
     where
       by : (o : Option ℕ)
-          → (first_lack maps groups folds (ps ++ qs) ≡ None → (first_lack maps groups folds ps ≡ None) × (first_lack maps groups folds qs ≡ None))
-          → ◌≡◌ {A = Option CallsError} (elim o [ None ↦ first_lack maps groups folds (ps ++ qs) | Some code ↦ Some (NoCall p.vertex.number code) ]) None
-          → (◌≡◌ {A = Option CallsError} (elim o [ None ↦ first_lack maps groups folds ps | Some code ↦ Some (NoCall p.vertex.number code) ]) None)
-          × (first_lack maps groups folds qs ≡ None)
+          → (first_lack stored (ps ++ qs) ≡ None → (first_lack stored ps ≡ None) × (first_lack stored qs ≡ None))
+          → ◌≡◌ {A = Option CallsError} (elim o [ None ↦ first_lack stored (ps ++ qs) | Some code ↦ Some (NoCall p.vertex.number code) ]) None
+          → (◌≡◌ {A = Option CallsError} (elim o [ None ↦ first_lack stored ps | Some code ↦ Some (NoCall p.vertex.number code) ]) None)
+          × (first_lack stored qs ≡ None)
       by None rest e = rest e
       by (Some code) rest e = absurd (cc)
 
@@ -97,16 +98,16 @@ past_vertex own n v w e = both_below n (n + 1) own (read_of v v.kind) (omega ari
 past_loop : (own : List ℕ) (n : ℕ) (body : Nodes) → AreBelow n own → IsWellPlaced (read_in body) own [] n body → AreBelow (n + size body) (own ++ leaves_of body)
 past_loop own n body w p = both_below n (n + size body) own (leaves_of body) (omega arith) w (leaves_below body (read_in body) own [] n (n + size body) (omega arith) p)
 
-module _ (maps groups folds : ℕ → Bool) where
+module _ (stored : Codes) where
   inner_is : (nodes : Nodes) (loops : List Loop) (all outer own : List ℕ) (n : ℕ) → IsWellPlaced all outer own n nodes → StandsWell true nodes → AreBelow n own
-      → first_lack maps groups folds (placed_in loops n nodes) ≡ None → IsInner maps groups folds n nodes
+      → first_lack stored (placed_in loops n nodes) ≡ None → IsInner stored n nodes
   inner_is done loops all outer own n p s w fits = tt
   inner_is (node v rest) loops all outer own n p s w fits =
-      let parts = first_fits maps groups folds (record { vertex = v; loops = loops }) (placed_in loops (n + 1) rest) fits in
+      let parts = first_fits stored (record { vertex = v; loops = loops }) (placed_in loops (n + 1) rest) fits in
       ((p.0, parts.0), inner_is rest loops all outer (own ++ read_of v v.kind) (n + 1) p.2 s.1 (past_vertex own n v w p.0) parts.1)
   inner_is (block bound body rest) loops all outer own n p s w fits =
       let within : List Loop = record { first = n; bound = bound } ∷ loops in
-      let parts = both_fit maps groups folds (placed_in within n body) (placed_in loops (n + size body) rest) fits in (
+      let parts = both_fit stored (placed_in within n body) (placed_in loops (n + size body) rest) fits in (
         s.0,
         (own, loop_body own n body w p.0 s.2),
         inner_is body within (read_in body) own [] n p.0 s.2 tt parts.0,
@@ -114,17 +115,17 @@ module _ (maps groups folds : ℕ → Bool) where
       )
 
   outer_is : (nodes : Nodes) (all own : List ℕ) (n : ℕ) → IsWellPlaced all [] own n nodes → StandsWell false nodes → AreBelow n own
-      → first_lack maps groups folds (placed_in [] n nodes) ≡ None → IsOuter maps groups folds n nodes
+      → first_lack stored (placed_in [] n nodes) ≡ None → IsOuter stored n nodes
   outer_is done all own n p s w fits = tt
   outer_is (node v rest) all own n p s w fits =
-      let parts = first_fits maps groups folds (record { vertex = v; loops = [] }) (placed_in [] (n + 1) rest) fits in (
+      let parts = first_fits stored (record { vertex = v; loops = [] }) (placed_in [] (n + 1) rest) fits in (
         (p.0, parts.0),
         sources_below v.kind all own v.sources n s.0 w p.1,
         outer_is rest all (own ++ read_of v v.kind) (n + 1) p.2 s.1 (past_vertex own n v w p.0) parts.1,
       )
   outer_is (block bound body rest) all own n p s w fits =
       let within : List Loop = record { first = n; bound = bound } ∷ [] in
-      let parts = both_fit maps groups folds (placed_in within n body) (placed_in [] (n + size body) rest) fits in (
+      let parts = both_fit stored (placed_in within n body) (placed_in [] (n + size body) rest) fits in (
         s.0,
         (own, loop_body own n body w p.0 s.2),
         inner_is body within (read_in body) own [] n p.0 s.2 tt parts.0,
@@ -132,6 +133,6 @@ module _ (maps groups folds : ℕ → Bool) where
       )
 
 -- a tree whose sources are read where their readers read, whose vertices stand where their kinds may, and whose closures are stored
-pub tree_is_outer : (maps groups folds : ℕ → Bool) (nodes : Nodes) → IsPlacedTree nodes → StandsWell false nodes → first_lack maps groups folds (placed_in [] 0 nodes) ≡ None
-    → IsOuter maps groups folds 0 nodes
-tree_is_outer maps groups folds nodes placed stands fits = outer_is maps groups folds nodes (read_in nodes) [] 0 placed stands tt fits
+pub tree_is_outer : (stored : Codes) (nodes : Nodes) → IsPlacedTree nodes → StandsWell false nodes → first_lack stored (placed_in [] 0 nodes) ≡ None
+    → IsOuter stored 0 nodes
+tree_is_outer stored nodes placed stands fits = outer_is stored nodes (read_in nodes) [] 0 placed stands tt fits

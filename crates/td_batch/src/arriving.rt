@@ -12,11 +12,10 @@ ghost use Rattle.td_batch.specs.Meaning.{emitted, bags_read};
 ghost use Rattle.td_batch.specs.Steps.Emitted.{bag_or_none};
 
 use crate::emitted::{Before, Emitted, Listed};
-use crate::error::BatchError;
 use std::alloc::Global;
 use std::marker::Model;
 use td_plan::{Kind, Vertex};
-use td_stamp::{Arrival, Bag, Members};
+use td_stamp::{Arrival, Bag, Members, StampError as BatchError};
 
 /// An iterator over what arrives at a vertex, in order: the records of one bag at port 0, where they stand, or those of
 /// several.

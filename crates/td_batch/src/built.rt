@@ -4,11 +4,11 @@ ghost use Rattle.td_plan.specs.Marks.{lines_of_marks, AreMarked};
 ghost use Rattle.td_plan.specs.Tree.{opened, rest_of};
 ghost use Rattle.td_plan.specs.Tree.Nodes.{done, node};
 
-use crate::error::BatchError;
 use crate::tree::Tree;
 use std::alloc::Global;
 use std::collections::VecDeque;
 use td_plan::{Mark, Vertex};
+use td_stamp::StampError as BatchError;
 
 /// What the lines from some line on make of the tree: what stands in the block where they begin, and what follows the
 /// ends of that block and of those around it, the innermost first.

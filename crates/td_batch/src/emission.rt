@@ -17,14 +17,13 @@ ghost use Rattle.td_batch.specs.Steps.Tree.{nodes_of, reads, AreAlike};
 use crate::arriving::{arriving, only_bag};
 use crate::changes::Change;
 use crate::emitted::{Before, Emitted};
-use crate::error::BatchError;
 use crate::kept::KeptStates;
 use crate::sent::{answer_one, answer_several};
 use crate::tree::Tree;
 use std::alloc::Global;
 use td_calls::{Closures, Law};
 use td_plan::{Kind, Vertex};
-use td_stamp::Batch;
+use td_stamp::{Batch, StampError as BatchError};
 
 /// What an epoch is computed from.
 #[derive(Drop)]
@@ -46,7 +45,7 @@ pub(crate) fn emission_if_asked<'b, 'a, L: Law, C: Closures<L>, S: KeptStates>(
     need: &[usize],
     changes: &mut Vec<Change>,
 ) -> Result<Emitted<'a>, BatchError>
-    requires stored { lacking_code (C.has_map given.now.calls.now) (C.has_group given.now.calls.now) (C.has_fold given.now.calls.now) vertex.now.vertex.kind ≡ None }
+    requires stored { lacking_code (C.stored given.now.calls.now) vertex.now.vertex.kind ≡ None }
     ensures read { IfOk result (λ bag. list_any (λ s. s == vertex.now.vertex.number) (reads (is_none before.now) (nodes_of rest.now) ++ need.now) ≡ true
         → bag ≡ emission (input_of L.answers (S.states given.now.states.now) given.now.batch.now) before.now bags.now vertex.now.vertex) }
     ensures put_out { IfOk result (λ bag. is_output vertex.now.vertex.kind ≡ true
@@ -86,7 +85,7 @@ fn emission<'b, 'a, L: Law, C: Closures<L>, S: KeptStates>(
     vertex: &Vertex,
     changes: &mut Vec<Change>,
 ) -> Result<Emitted<'a>, BatchError>
-    requires stored { lacking_code (C.has_map given.now.calls.now) (C.has_group given.now.calls.now) (C.has_fold given.now.calls.now) vertex.now.vertex.kind ≡ None }
+    requires stored { lacking_code (C.stored given.now.calls.now) vertex.now.vertex.kind ≡ None }
     ensures sent { IfOk result (λ bag. bag ≡ emission (input_of L.answers (S.states given.now.states.now) given.now.batch.now) before.now bags.now vertex.now.vertex) }
     ensures kept { OnOk result (changes.new.items ≡ changes.old.items
         ++ changes_by L.answers (state_of (S.states given.now.states.now) vertex.now.vertex.number) vertex.now.vertex.number vertex.now.vertex.kind

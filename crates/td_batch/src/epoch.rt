@@ -12,14 +12,13 @@ ghost use Rattle.td_batch.specs.Steps.Tree.{nodes_of, reads, AreAlike};
 use crate::changes::Change;
 use crate::emission::{Given, emission_if_asked, keep};
 use crate::emitted::{Before, Emitted};
-use crate::error::BatchError;
 use crate::kept::KeptStates;
 use crate::rounds::go_round;
 use crate::tree::Tree;
 use std::alloc::Global;
 use td_calls::{Closures, Law};
 use td_plan::Vertex;
-use td_stamp::Output;
+use td_stamp::{Output, StampError as BatchError};
 
 /// What an epoch brings: its outputs, in no order, and the states that folds are to keep. The states are changed at the end, in
 /// place. So each key is asked with its state before the epoch, and an epoch costs what it touches.
@@ -36,7 +35,7 @@ pub(crate) fn bring<'a, L: Law, C: Closures<L>, S: KeptStates>(
     given: &Given<'a, C, S>,
     tree: &Tree,
 ) -> Result<Brought, BatchError>
-    requires { IsOuter (C.has_map given.now.calls.now) (C.has_group given.now.calls.now) (C.has_fold given.now.calls.now) 0 (nodes_of tree.now) }
+    requires { IsOuter (C.stored given.now.calls.now) 0 (nodes_of tree.now) }
     ensures outs { IfOk result (λ brought. brought.outputs.items ≡
         outputs_in (emitted (epoch_bags (input_of L.answers (S.states given.now.states.now) given.now.batch.now) (nodes_of tree.now))) (nodes_of tree.now)) }
     ensures changes { IfOk result (λ brought. brought.changes.items ≡
@@ -75,7 +74,7 @@ fn step<'b, 'a, L: Law, C: Closures<L>, S: KeptStates>(
     brought: &mut Brought,
 ) -> Result<(), BatchError>
     requires first { before.now ≡ None }
-    requires here { IsAt (C.has_map given.now.calls.now) (C.has_group given.now.calls.now) (C.has_fold given.now.calls.now) (length bags.old.items) vertex.now.vertex }
+    requires here { IsAt (C.stored given.now.calls.now) (length bags.old.items) vertex.now.vertex }
     ensures length { OnOk result (length bags.new.items ≡ length bags.old.items + 1) }
     ensures alike { OnOk result (AreAlike (reads true (nodes_of rest.now)) bags.new.items
         (bags.old.items ++ emission (input_of L.answers (S.states given.now.states.now) given.now.batch.now) None bags.old.items vertex.now.vertex ∷ [])) }

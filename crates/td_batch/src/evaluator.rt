@@ -15,14 +15,13 @@ ghost use Rattle.td_batch.specs.Changes.{epoch_changes, with_change};
 use crate::changes::{Change, EpochChanges};
 use crate::emission::Given;
 use crate::epoch::{Brought, bring};
-use crate::error::BatchError;
 use crate::kept::KeptStates;
 use crate::tree::Tree;
 use std::alloc::Global;
 use std::marker::Model;
 use td_calls::{Closures, Law};
 use td_plan::Plan;
-use td_stamp::{Bag, Batch, EpochOut, States};
+use td_stamp::{Bag, Batch, EpochOut, StampError as BatchError, States};
 
 /// A plan made ready for its epochs: what stands in which of its loops is found once, and not at each epoch. Contracts see the
 /// plan.
@@ -66,7 +65,7 @@ impl<'a> Evaluator<'a> {
         epoch: u64,
         batch: &Batch,
     ) -> Result<EpochOut, BatchError>
-        requires fits { first_lack (C.has_map calls.now) (C.has_group calls.now) (C.has_fold calls.now) (vertices self.now) ≡ None }
+        requires fits { first_lack (C.stored calls.now) (vertices self.now) ≡ None }
         requires accepted { IsTrue (list_all (λ e. is_input_of self.now e.input) batch.now) }
         requires number { (1 ≤ epoch) × (epoch < 2 ^ 63) }
         ensures number { IfOk result (λ out. out.epoch ≡ epoch) }
@@ -89,7 +88,7 @@ impl<'a> Evaluator<'a> {
         states: &S,
         batch: &Batch,
     ) -> Result<EpochChanges, BatchError>
-        requires fits { first_lack (C.has_map calls.now) (C.has_group calls.now) (C.has_fold calls.now) (vertices self.now) ≡ None }
+        requires fits { first_lack (C.stored calls.now) (vertices self.now) ≡ None }
         requires accepted { IsTrue (list_all (λ e. is_input_of self.now e.input) batch.now) }
         ensures outputs { IfOk result (λ all. all.outputs ≡ (epoch_result (input_of L.answers (S.states states.now) batch.now) (tree_of self.now)).outs) }
         ensures changes { IfOk result (λ all. all.changes.items ≡ epoch_changes (input_of L.answers (S.states states.now) batch.now) (tree_of self.now)) }
@@ -119,7 +118,7 @@ pub fn evaluate<L: Law, C: Closures<L>>(
     first: u64,
     batches: &[Batch],
 ) -> Result<(States, Vec<EpochOut>), BatchError>
-    requires fits { first_lack (C.has_map calls.now) (C.has_group calls.now) (C.has_fold calls.now) (vertices plan.now) ≡ None }
+    requires fits { first_lack (C.stored calls.now) (vertices plan.now) ≡ None }
     requires accepted { All (λ batch. IsTrue (list_all (λ e. is_input_of plan.now e.input) batch)) batches.now }
     requires begins { 1 ≤ first }
     requires ends { first + length batches.now ≤ 2 ^ 63 }

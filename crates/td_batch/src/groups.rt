@@ -6,9 +6,8 @@ ghost use Rattle.td_stamp.specs.Groups.{groups};
 ghost use Rattle.td_batch.specs.Steps.Sent.{with_group};
 
 use crate::arriving::Arrived;
-use crate::error::BatchError;
 use std::marker::Model;
-use td_stamp::{Arrival, Item, laws};
+use td_stamp::{Arrival, Item, StampError as BatchError, laws};
 
 /// The keys of some arrivals, in order, each with its sorted items. One arrival is read ahead.
 #[derive(Drop)]

@@ -16,7 +16,6 @@ mod changes;
 mod emission;
 mod emitted;
 mod epoch;
-mod error;
 mod evaluator;
 mod groups;
 mod kept;
@@ -26,6 +25,6 @@ mod sent;
 mod tree;
 
 pub use changes::{Change, EpochChanges};
-pub use error::BatchError;
 pub use evaluator::{Evaluator, evaluate};
 pub use kept::KeptStates;
+pub use td_stamp::StampError as BatchError;

@@ -14,14 +14,13 @@ ghost use Rattle.td_batch.specs.Steps.Tree.{nodes_of, reads, AreAlike};
 
 use crate::emission::{Given, emission_if_asked, is_needed, keep};
 use crate::emitted::{Before, Emitted};
-use crate::error::BatchError;
 use crate::kept::KeptStates;
 use crate::tree::Tree;
 use std::alloc::Global;
 use std::marker::Model;
 use td_calls::{Closures, Law};
 use td_plan::Vertex;
-use td_stamp::{Bag, Rec};
+use td_stamp::{Bag, Rec, StampError as BatchError};
 
 /// Records that are collected over the turns of a loop, and sorted once.
 #[derive(Drop)]
@@ -49,7 +48,7 @@ pub(crate) fn walk<'b, 'a, L: Law, C: Closures<L>, S: KeptStates>(
     need: &[usize],
     bags: &mut Vec<Emitted<'a>>,
 ) -> Result<(), BatchError>
-    requires { IsInner (C.has_map given.now.calls.now) (C.has_group given.now.calls.now) (C.has_fold given.now.calls.now) (length bags.old.items) (nodes_of nodes.now) }
+    requires { IsInner (C.stored given.now.calls.now) (length bags.old.items) (nodes_of nodes.now) }
     ensures length { OnOk result (length bags.new.items ≡ length bags.old.items + size (nodes_of nodes.now)) }
     ensures alike { OnOk result (AreAlike need.now bags.new.items
         (turn (input_of L.answers (S.states given.now.states.now) given.now.batch.now) (nodes_of nodes.now) before.now bags.old.items)) }
@@ -88,7 +87,7 @@ fn emit<'b, 'a, L: Law, C: Closures<L>, S: KeptStates>(
     need: &[usize],
     bags: &mut Vec<Emitted<'a>>,
 ) -> Result<(), BatchError>
-    requires { IsAt (C.has_map given.now.calls.now) (C.has_group given.now.calls.now) (C.has_fold given.now.calls.now) (length bags.old.items) vertex.now.vertex }
+    requires { IsAt (C.stored given.now.calls.now) (length bags.old.items) vertex.now.vertex }
     ensures length { OnOk result (length bags.new.items ≡ length bags.old.items + 1) }
     ensures alike { OnOk result (AreAlike (reads (is_none before.now) (nodes_of rest.now) ++ need.now) bags.new.items
         (bags.old.items ++ emission (input_of L.answers (S.states given.now.states.now) given.now.batch.now) before.now bags.old.items vertex.now.vertex ∷ [])) }
@@ -123,7 +122,7 @@ pub(crate) fn go_round<'a, L: Law, C: Closures<L>, S: KeptStates>(
     bags: &mut Vec<Emitted<'a>>,
 ) -> Result<(), BatchError>
     requires body { (outer : List ℕ) × IsLoopBody outer (length bags.old.items) (nodes_of body.now) }
-    requires inner { IsInner (C.has_map given.now.calls.now) (C.has_group given.now.calls.now) (C.has_fold given.now.calls.now) (length bags.old.items) (nodes_of body.now) }
+    requires inner { IsInner (C.stored given.now.calls.now) (length bags.old.items) (nodes_of body.now) }
     requires bound { 1 ≤ bound }
     ensures length { OnOk result (length bags.new.items ≡ length bags.old.items + size (nodes_of body.now)) }
     ensures alike { OnOk result (AreAlike (reads is_first (nodes_of rest.now) ++ need.now) bags.new.items

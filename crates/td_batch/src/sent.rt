@@ -13,14 +13,13 @@ ghost use Rattle.td_batch.specs.Steps.Sent.{is_repeat};
 use crate::arriving::Arrived;
 use crate::changes::Change;
 use crate::emitted::Emitted;
-use crate::error::BatchError;
 use crate::groups::Groups;
 use crate::kept::KeptStates;
 use std::alloc::Global;
 use td_calls::laws::in_any_order;
 use td_calls::{Closures, Law};
 use td_plan::Kind;
-use td_stamp::{Arrival, Bag, Rec, laws};
+use td_stamp::{Arrival, Bag, Rec, StampError as BatchError, laws};
 
 /// What a vertex sends of the records of one bag, which arrive at its port 0, in an epoch before which these states are
 /// kept. They are read where they stand. What a fold is to keep comes after the `changes` so far. Refusal: `Memory`.
@@ -33,7 +32,7 @@ pub(crate) fn answer_one<L: Law, C: Closures<L>, S: KeptStates>(
     bag: &Emitted<'_>,
     changes: &mut Vec<Change>,
 ) -> Result<Bag<Rec>, BatchError>
-    requires stored { lacking_code (C.has_map calls.now) (C.has_group calls.now) (C.has_fold calls.now) kind ≡ None }
+    requires stored { lacking_code (C.stored calls.now) kind ≡ None }
     requires other { is_input kind ≡ false }
     ensures sent { IfOk result (λ sent. sent ≡ sends L.answers (state_of (S.states states.now) vertex) kind nothing_kept (map (arrival_of 0) bag.now)) }
     ensures kept { OnOk result (changes.new.items ≡ changes.old.items ++ changes_by L.answers (state_of (S.states states.now) vertex) vertex kind (map (arrival_of 0) bag.now)) }
@@ -53,7 +52,7 @@ pub(crate) fn answer_several<L: Law, C: Closures<L>, S: KeptStates>(
     arrived: Vec<Arrival>,
     changes: &mut Vec<Change>,
 ) -> Result<Bag<Rec>, BatchError>
-    requires stored { lacking_code (C.has_map calls.now) (C.has_group calls.now) (C.has_fold calls.now) kind ≡ None }
+    requires stored { lacking_code (C.stored calls.now) kind ≡ None }
     requires other { is_input kind ≡ false }
     ensures sent { IfOk result (λ sent. sent ≡ sends L.answers (state_of (S.states states.now) vertex) kind nothing_kept arrived.items) }
     ensures kept { OnOk result (changes.new.items ≡ changes.old.items ++ changes_by L.answers (state_of (S.states states.now) vertex) vertex kind arrived.items) }
@@ -76,7 +75,7 @@ fn answer<L: Law, C: Closures<L>, S: KeptStates>(
     arrived: Arrived<'_>,
     changes: &mut Vec<Change>,
 ) -> Result<Bag<Rec>, BatchError>
-    requires stored { lacking_code (C.has_map calls.now) (C.has_group calls.now) (C.has_fold calls.now) kind ≡ None }
+    requires stored { lacking_code (C.stored calls.now) kind ≡ None }
     requires other { is_input kind ≡ false }
     requires in_order { IsBag arrival_cmp arrived }
     ensures sent { IfOk result (λ sent. sent ≡ sends L.answers (state_of (S.states states.now) vertex) kind nothing_kept arrived.entry) }
@@ -101,7 +100,7 @@ fn mapped<L: Law, C: Closures<L>>(
     code: u16,
     arrived: Arrived<'_>,
 ) -> Result<Bag<Rec>, BatchError>
-    requires stored { IsTrue (C.has_map calls.now code) }
+    requires stored { IsTrue ((C.stored calls.now).map code) }
     ensures { IfOk result (λ sent. sent ≡ bag_of rec_cmp (flat_map (λ a. L.answers.emit code a.item.port (rec_of a)) arrived.entry)) }
 {
     let mut sent = Vec::new(alloc);
@@ -168,7 +167,7 @@ fn grouped<L: Law, C: Closures<L>>(
     code: u16,
     mut keys: Groups<'_>,
 ) -> Result<Bag<Rec>, BatchError>
-    requires stored { IsTrue (C.has_group calls.now code) }
+    requires stored { IsTrue ((C.stored calls.now).group code) }
     ensures { IfOk result (λ sent. sent ≡ bag_of rec_cmp (flat_map (λ g. L.answers.group code g.0 g.1) keys.entry)) }
 {
     let mut items = Vec::new(alloc);
@@ -193,7 +192,7 @@ fn folded<L: Law, C: Closures<L>, S: KeptStates>(
     mut keys: Groups<'_>,
     changes: &mut Vec<Change>,
 ) -> Result<Bag<Rec>, BatchError>
-    requires stored { IsTrue (C.has_fold calls.now code) }
+    requires stored { IsTrue ((C.stored calls.now).fold code) }
     ensures sent { IfOk result (λ sent. sent ≡ bag_of rec_cmp (flat_map (λ g. (L.answers.fold code g.0 (state_of (S.states states.now) vertex g.0) g.1).1) keys.entry)) }
     ensures kept { OnOk result (changes.new.items ≡ changes.old.items
         ++ map (λ g. record { vertex = vertex; key = g.0; state = (L.answers.fold code g.0 (state_of (S.states states.now) vertex g.0) g.1).0 }) keys.entry) }

@@ -5,6 +5,7 @@ ghost use Rattle.std.specs.List.{list_any, AllByRecursion};
 ghost use Rattle.td_plan.specs.Tree.{tree_of};
 ghost use Rattle.td_plan.specs.Blocks.{vertices};
 ghost use Rattle.td_calls.specs.Fits.{first_lack};
+ghost use Rattle.td_calls.specs.Stored.{Codes};
 ghost use Rattle.td_batch.specs.Quiet.{fed_back, fed_back_by, NothingReturns};
 ghost use Rattle.td_batch.specs.Meaning.{emitted, returned};
 ghost use Rattle.td_batch.specs.Steps.Emitted.{bag_or_none};
@@ -13,9 +14,9 @@ ghost use Rattle.td_batch.specs.Steps.Tree.{nodes_of, read_by, reads};
 
 use crate::built::Built;
 use crate::emitted::{Before, Emitted};
-use crate::error::BatchError;
 use std::alloc::Global;
 use td_plan::{Kind, Plan, Vertex, laws};
+use td_stamp::StampError as BatchError;
 
 /// The vertices and loops of a block, in order.
 #[derive(Drop)]
@@ -32,8 +33,8 @@ impl Tree {
     /// The tree of a plan, whose closures are stored where the plan's are. Refusal: `Memory`.
     pub(crate) fn of(alloc: Global, plan: &Plan) -> Result<Tree, BatchError>
         ensures tree { IfOk result (λ tree. nodes_of tree ≡ tree_of plan.now) }
-        ensures outer { IfOk result (λ tree. (maps groups folds : ℕ → Bool) → first_lack maps groups folds (vertices plan.now) ≡ None
-            → IsOuter maps groups folds 0 (nodes_of tree)) }
+        ensures outer { IfOk result (λ tree. (stored : Codes) → first_lack stored (vertices plan.now) ≡ None
+            → IsOuter stored 0 (nodes_of tree)) }
     {
         laws::trees();
         laws::well_placed();

@@ -16,7 +16,8 @@ use Rattle.td_formula.specs.Written.{closure_at, map_answer, group_answer, fold_
 use Rattle.td_closures.specs.Texts.{ClosuresText}
 use Rattle.td_closures.specs.Drafts.{closures_of}
 use Rattle.td_closures.specs.Kept.{said_by}
-use Rattle.td_c.specs.Stores.{stored_catalogue, stored_beside}
+use Rattle.td_formula.specs.Stored.{stored_beside}
+use Rattle.td_c.specs.Stores.{stored_catalogue}
 
 none_said : (closures : List Closure) → map said_by closures ≡ [] → closures ≡ []
 none_said [] e = refl
@@ -70,10 +71,12 @@ adds_nothing no_map no_group no_fold maps groups folds = λ i. record {
     fold = λ code. by_code catalogue.fold (λ c. fold_answer (closure_at kinds.Fold [] c))
         (λ c high. ap fold_answer (no_closure kinds.Fold c) ∙ (λ j key state items. sym (folds c key state items (no_fold c high)) j)) code i;
   };
-  has_map = λ code. by_code (λ c. in_catalogue (Map c)) (λ c. is_some (closure_at kinds.Map [] c))
-      (λ c high. ap is_some (no_closure kinds.Map c) ∙ sym (no_map c high)) code i;
-  has_group = λ code. by_code (λ c. in_catalogue (Group c)) (λ c. is_some (closure_at kinds.Group [] c))
-      (λ c high. ap is_some (no_closure kinds.Group c) ∙ sym (no_group c high)) code i;
-  has_fold = λ code. by_code (λ c. in_catalogue (Fold c)) (λ c. is_some (closure_at kinds.Fold [] c))
-      (λ c high. ap is_some (no_closure kinds.Fold c) ∙ sym (no_fold c high)) code i;
+  codes = record {
+    map = λ code. by_code (λ c. in_catalogue (Map c)) (λ c. is_some (closure_at kinds.Map [] c))
+        (λ c high. ap is_some (no_closure kinds.Map c) ∙ sym (no_map c high)) code i;
+    group = λ code. by_code (λ c. in_catalogue (Group c)) (λ c. is_some (closure_at kinds.Group [] c))
+        (λ c high. ap is_some (no_closure kinds.Group c) ∙ sym (no_group c high)) code i;
+    fold = λ code. by_code (λ c. in_catalogue (Fold c)) (λ c. is_some (closure_at kinds.Fold [] c))
+        (λ c high. ap is_some (no_closure kinds.Fold c) ∙ sym (no_fold c high)) code i;
+  };
 }

@@ -10,7 +10,9 @@ use Rattle.td_c.specs.declared.values.TdState.{TdState}
 use Rattle.td_c.specs.declared.values.TdCounts.{TdCounts}
 use Rattle.td_c.specs.declared.refusal.Refusal.{Refusal}
 use Rattle.td_c.specs.declared.refusal.Refusal.TheVariants as refusals
-use Rattle.td_c.specs.Stores.{Stored, stored_catalogue, stored_beside}
+use Rattle.td_calls.specs.Stored.{Stored}
+use Rattle.td_formula.specs.Stored.{stored_beside}
+use Rattle.td_c.specs.Stores.{stored_catalogue}
 use Rattle.td_c.specs.PlanRead.{HasPlan, PlanRefused}
 use Rattle.td_c.specs.Epoch.{EpochWritten, EpochRefused}
 

@@ -13,7 +13,7 @@ use Rattle.td_c.specs.declared.values.TdChange.{TdChange}
 use Rattle.td_c.specs.declared.values.TdCounts.{TdCounts}
 use Rattle.td_c.specs.declared.refusal.Refusal.{Refusal}
 use Rattle.td_c.specs.declared.refusal.Refusal.TheVariants as refusals
-use Rattle.td_c.specs.Stores.{Stored}
+use Rattle.td_calls.specs.Stored.{Stored}
 use Rattle.td_c.specs.PlanRead.{IsPlanOf}
 use Rattle.td_c.specs.Rows.{batch_of, states_of, output_row}
 use Rattle.td_c.specs.Epoch.{HasRows, AdvanceRefused}

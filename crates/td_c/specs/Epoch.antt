@@ -10,7 +10,7 @@ use Rattle.td_c.specs.declared.values.TdState.{TdState}
 use Rattle.td_c.specs.declared.values.TdCounts.{TdCounts}
 use Rattle.td_c.specs.declared.refusal.Refusal.{Refusal}
 use Rattle.td_c.specs.declared.refusal.Refusal.TheVariants as refusals
-use Rattle.td_c.specs.Stores.{Stored}
+use Rattle.td_calls.specs.Stored.{Stored}
 use Rattle.td_c.specs.PlanRead.{IsPlanOf, PlanRefused}
 use Rattle.td_c.specs.Rows.{batch_of, states_of, state_row, output_row, RecordRefused, StateRefused}
 

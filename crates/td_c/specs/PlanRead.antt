@@ -9,12 +9,12 @@ use Rattle.td_calls.specs.declared.error.CallsError.{CallsError}
 use Rattle.td_calls.specs.Fits.{first_lack}
 use Rattle.td_c.specs.declared.refusal.Refusal.{Refusal}
 use Rattle.td_c.specs.declared.refusal.Refusal.TheVariants as refusals
-use Rattle.td_c.specs.Stores.{Stored}
+use Rattle.td_calls.specs.Stored.{Stored}
 
 module _ (stored : Stored) where
   -- the first vertex of a plan whose closure is not stored
   abbrev pub first_lacking : List Line → Option CallsError
-  first_lacking plan = first_lack stored.has_map stored.has_group stored.has_fold (vertices plan)
+  first_lacking plan = first_lack stored.codes (vertices plan)
 
   -- the text spells this plan, whose closures are all stored
   pub record IsPlanOf (text : List ℕ) (plan : List Line) : Type 0 where

@@ -1,6 +1,6 @@
 //! One epoch: what C hands in is read, the plan is evaluated, and what comes of it is written.
 ghost use Rattle.std.specs.Prelude.{◌≡◌, ◌≢◌, IfOk, OnOk, IfErr, OnErr};
-ghost use Rattle.td_c.specs.Stores.{stored_in};
+ghost use Rattle.td_calls.specs.Stored.{stored_in};
 ghost use Rattle.td_c.specs.Epoch.{Advances, AdvanceRefused, EpochWritten, EpochRefused};
 
 use crate::reading::{batch_of, plan_of, states_of};
@@ -29,9 +29,9 @@ pub(crate) fn advance<L: Law, C: Closures<L>>(
     outputs: &mut [TdRecord],
     counts: &mut TdCounts,
 ) -> Result<(), Refusal>
-    ensures ok { OnOk result (EpochWritten (stored_in L.answers C.has_map C.has_group C.has_fold calls.now)
+    ensures ok { OnOk result (EpochWritten (stored_in L.answers (C.stored calls.now))
         text.now records.now states.old states.new outputs.old outputs.new counts.old counts.new) }
-    ensures err { IfErr result (λ e. EpochRefused (stored_in L.answers C.has_map C.has_group C.has_fold calls.now)
+    ensures err { IfErr result (λ e. EpochRefused (stored_in L.answers (C.stored calls.now))
         text.now records.now states.old outputs.old counts.old counts.new e) }
     ensures same_states { OnErr result (states.new ≡ states.old) }
     ensures same_outputs { OnErr result (outputs.new ≡ outputs.old) }
@@ -60,8 +60,8 @@ fn advanced<L: Law, C: Closures<L>>(
     records: &[TdRecord],
     kept: &[TdState],
 ) -> Result<EpochResult, Refusal>
-    ensures ok { IfOk result (λ after. Advances (stored_in L.answers C.has_map C.has_group C.has_fold calls.now) text.now records.now kept.now after.states after.outputs) }
-    ensures err { IfErr result (λ e. AdvanceRefused (stored_in L.answers C.has_map C.has_group C.has_fold calls.now) text.now records.now kept.now e) }
+    ensures ok { IfOk result (λ after. Advances (stored_in L.answers (C.stored calls.now)) text.now records.now kept.now after.states after.outputs) }
+    ensures err { IfErr result (λ e. AdvanceRefused (stored_in L.answers (C.stored calls.now)) text.now records.now kept.now e) }
 {
     let plan = plan_of::<L, C>(alloc, calls, text)?;
     let batch = batch_of(alloc, &plan, records)?;

@@ -1,6 +1,7 @@
 //! Calls with closures in text, which stand beside those of the catalogue.
 ghost use Rattle.std.specs.Prelude.{◌≡◌, IfErr, OnOk, OnErr};
-ghost use Rattle.td_c.specs.Stores.{stored_catalogue, stored_beside};
+ghost use Rattle.td_formula.specs.Stored.{stored_beside};
+ghost use Rattle.td_c.specs.Stores.{stored_catalogue};
 ghost use Rattle.td_c.specs.PlanRead.{HasPlan, PlanRefused};
 ghost use Rattle.td_c.specs.Epoch.{EpochWritten, EpochRefused};
 ghost use Rattle.td_c.specs.Changes.{ChangesWritten, ChangesRefused, ChangesWrittenBeside, ChangesRefusedBeside};

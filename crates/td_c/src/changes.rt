@@ -1,6 +1,6 @@
 //! One epoch over some of the states that C keeps: those of the keys that it touches are enough.
 ghost use Rattle.std.specs.Prelude.{◌≡◌, IfOk, OnOk, IfErr, OnErr};
-ghost use Rattle.td_c.specs.Stores.{stored_in};
+ghost use Rattle.td_calls.specs.Stored.{stored_in};
 ghost use Rattle.td_c.specs.Epoch.{AdvanceRefused};
 ghost use Rattle.td_c.specs.Changes.{Changes, ChangesWritten, ChangesRefused};
 
@@ -25,9 +25,9 @@ pub(crate) fn write_changes<L: Law, C: Closures<L>>(
     outputs: &mut [TdRecord],
     counts: &mut TdCounts,
 ) -> Result<(), Refusal>
-    ensures ok { OnOk result (ChangesWritten (stored_in L.answers C.has_map C.has_group C.has_fold calls.now)
+    ensures ok { OnOk result (ChangesWritten (stored_in L.answers (C.stored calls.now))
         text.now records.now states.now changes.old changes.new outputs.old outputs.new counts.new) }
-    ensures err { IfErr result (λ e. ChangesRefused (stored_in L.answers C.has_map C.has_group C.has_fold calls.now)
+    ensures err { IfErr result (λ e. ChangesRefused (stored_in L.answers (C.stored calls.now))
         text.now records.now states.now changes.old outputs.old counts.old counts.new e) }
     ensures same_changes { OnErr result (changes.new ≡ changes.old) }
     ensures same_outputs { OnErr result (outputs.new ≡ outputs.old) }
@@ -53,8 +53,8 @@ fn changed<L: Law, C: Closures<L>>(
     records: &[TdRecord],
     given: &[TdState],
 ) -> Result<EpochChanges, Refusal>
-    ensures ok { IfOk result (λ made. Changes (stored_in L.answers C.has_map C.has_group C.has_fold calls.now) text.now records.now given.now made.changes.items made.outputs) }
-    ensures err { IfErr result (λ e. AdvanceRefused (stored_in L.answers C.has_map C.has_group C.has_fold calls.now) text.now records.now given.now e) }
+    ensures ok { IfOk result (λ made. Changes (stored_in L.answers (C.stored calls.now)) text.now records.now given.now made.changes.items made.outputs) }
+    ensures err { IfErr result (λ e. AdvanceRefused (stored_in L.answers (C.stored calls.now)) text.now records.now given.now e) }
 {
     laws::epochs_are_local();
     let plan = plan_of::<L, C>(alloc, calls, text)?;

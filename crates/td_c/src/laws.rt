@@ -3,7 +3,8 @@ ghost use Rattle.std.specs.Prelude.{◌≡◌, List, [], map};
 ghost use Rattle.td_formula.specs.declared.closure.Closure.{Closure};
 ghost use Rattle.td_closures.specs.Texts.{ClosuresText};
 ghost use Rattle.td_closures.specs.Kept.{said_by};
-ghost use Rattle.td_c.specs.Stores.{stored_catalogue, stored_beside};
+ghost use Rattle.td_formula.specs.Stored.{stored_beside};
+ghost use Rattle.td_c.specs.Stores.{stored_catalogue};
 
 use td_catalogue::laws::{neither_shelf, second_shelf};
 

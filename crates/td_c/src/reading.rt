@@ -7,7 +7,7 @@ ghost use Rattle.td_stamp.specs.Bag.{bag_of};
 ghost use Rattle.td_stamp.specs.Orders.{entry_cmp};
 ghost use Rattle.td_closures.specs.Texts.{ClosuresText};
 ghost use Rattle.td_closures.specs.Kept.{said_by};
-ghost use Rattle.td_c.specs.Stores.{stored_in};
+ghost use Rattle.td_calls.specs.Stored.{stored_in};
 ghost use Rattle.td_c.specs.PlanRead.{IsPlanOf, PlanRefused};
 ghost use Rattle.td_c.specs.Beside.{ClosuresRefused};
 ghost use Rattle.td_c.specs.Rows.{batch_of, states_of, is_fold_of, RecordRefused, StateRefused};
@@ -43,8 +43,8 @@ pub(crate) fn plan_of<L: Law, C: Closures<L>>(
     calls: &C,
     text: &[u8],
 ) -> Result<Plan, Refusal>
-    ensures ok { IfOk result (λ plan. IsPlanOf (stored_in L.answers C.has_map C.has_group C.has_fold calls.now) text.now plan) }
-    ensures err { IfErr result (λ e. PlanRefused (stored_in L.answers C.has_map C.has_group C.has_fold calls.now) text.now e) }
+    ensures ok { IfOk result (λ plan. IsPlanOf (stored_in L.answers (C.stored calls.now)) text.now plan) }
+    ensures err { IfErr result (λ e. PlanRefused (stored_in L.answers (C.stored calls.now)) text.now e) }
 {
     let Ok(text) = str::from_utf8(text) else {
         return Err(Refusal::Text);

@@ -5,7 +5,6 @@ ghost use Rattle.td_c.specs.declared.refusal.Refusal.TheVariants.{Plan, Memory};
 ghost use Rattle.td_c.specs.Refusals.{number_of, number_of_wrong, place_of, line_of, line_of_wrong};
 
 use std::alloc::{AllocError, AllocFailed};
-use td_batch::BatchError;
 use td_calls::CallsError;
 use td_closures::{Fault, Wrong};
 use td_plan::PlanError;
@@ -117,14 +116,6 @@ impl From<StampError> for Refusal {
     ghost from_gives = { λ _ e. e ≡ Memory };
 
     fn from(_error: StampError) -> Refusal {
-        Refusal::Memory
-    }
-}
-
-impl From<BatchError> for Refusal {
-    ghost from_gives = { λ _ e. e ≡ Memory };
-
-    fn from(_error: BatchError) -> Refusal {
         Refusal::Memory
     }
 }

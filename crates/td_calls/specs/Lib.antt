@@ -9,3 +9,4 @@ pub mod Ranges
 pub mod Refusals
 pub mod Steps
 pub mod Stock
+pub mod Stored

@@ -1,8 +1,9 @@
 //! Closures of all three kinds, and what the crates above know of them.
-ghost use Rattle.std.specs.Prelude.{◌≡◌, ◌↔◌, ◌⊎◌, ℕ, Bool, [], IsTrue, OnOk, OnErr, IfErr, IfSome, IsErrAnd, is_some};
+ghost use Rattle.std.specs.Prelude.{◌≡◌, ◌↔◌, ◌⊎◌, [], IsTrue, OnOk, OnErr, IfErr, IfSome, IsErrAnd, is_some};
 ghost use Rattle.td_plan.specs.Blocks.{vertices};
 ghost use Rattle.td_calls.specs.Codes.{has_code, GainsCode};
 ghost use Rattle.td_calls.specs.Fits.{lacking_code, first_lack};
+ghost use Rattle.td_calls.specs.Stored.{Codes};
 
 use crate::error::CallsError;
 use crate::law::{Coded, FoldCall, GroupCall, Law, MapCall};
@@ -14,23 +15,17 @@ use td_stamp::{Few, Item, Rec, State};
 /// Closures that answer a law, whatever keeps them. Each kind has its own codes. How they are kept is hidden from the crates
 /// above. `fits` is provided, so every keeper of closures has it with its contract.
 pub trait Closures<L: Law> {
-    /// Whether a map's closure of this code is stored.
-    ghost has_map: { Self → ℕ → Bool };
-
-    /// The same of a group's closure.
-    ghost has_group: { Self → ℕ → Bool };
-
-    /// The same of a fold's closure.
-    ghost has_fold: { Self → ℕ → Bool };
+    /// The codes of which a closure is stored, of each kind.
+    ghost stored: { Self → Codes };
 
     /// What the map's closure of this code sends for a record that arrives at `port`; none where no such closure is stored.
     fn map(&self, code: u16, port: u8, rec: Rec) -> Option<Few>
-        ensures found { is_some result ≡ has_map self.now code }
+        ensures found { is_some result ≡ (stored self.now).map code }
         ensures law { IfSome result (λ sent. sent.items ≡ L.answers.emit code port rec) };
 
     /// What the group's closure of this code sends for a key and its sorted items.
     fn group(&self, code: u16, key: u64, items: &[Item]) -> Option<Few>
-        ensures found { is_some result ≡ has_group self.now code }
+        ensures found { is_some result ≡ (stored self.now).group code }
         ensures law { IfSome result (λ sent. sent.items ≡ L.answers.group code key items.now) };
 
     /// The state that the fold's closure of this code keeps for a key, which had `state`, at these sorted items, and what it sends.
@@ -41,26 +36,26 @@ pub trait Closures<L: Law> {
         state: Option<State>,
         items: &[Item],
     ) -> Option<(Option<State>, Few)>
-        ensures found { is_some result ≡ has_fold self.now code }
+        ensures found { is_some result ≡ (stored self.now).fold code }
         ensures law { IfSome result (λ answer. (answer.0, answer.1.items) ≡ L.answers.fold code key state items.now) };
 
     /// Whether a map's closure of this code is stored.
     fn contains_map(&self, code: u16) -> bool
-        ensures { result ≡ has_map self.now code };
+        ensures { result ≡ (stored self.now).map code };
 
     /// The same of a group's closure.
     fn contains_group(&self, code: u16) -> bool
-        ensures { result ≡ has_group self.now code };
+        ensures { result ≡ (stored self.now).group code };
 
     /// The same of a fold's closure.
     fn contains_fold(&self, code: u16) -> bool
-        ensures { result ≡ has_fold self.now code };
+        ensures { result ≡ (stored self.now).fold code };
 
     /// Whether each vertex of a plan has a closure of its kind and code. Refusal: `NoCall` with the lowest vertex that
     /// lacks its closure, and the code. It takes no memory.
     fn fits(&self, plan: &Plan) -> Result<(), CallsError>
-        ensures ok { OnOk result (first_lack (has_map self.now) (has_group self.now) (has_fold self.now) (vertices plan.now) ≡ None) }
-        ensures err { IfErr result (λ e. first_lack (has_map self.now) (has_group self.now) (has_fold self.now) (vertices plan.now) ≡ Some e) }
+        ensures ok { OnOk result (first_lack (stored self.now) (vertices plan.now) ≡ None) }
+        ensures err { IfErr result (λ e. first_lack (stored self.now) (vertices plan.now) ≡ Some e) }
     {
         for vertex in plan.vertices() {
             if let Some(code) = self.lacking_code(vertex.kind()) {
@@ -72,7 +67,7 @@ pub trait Closures<L: Law> {
 
     /// The code for which a vertex of this kind lacks a closure.
     fn lacking_code(&self, kind: Kind) -> Option<u16>
-        ensures { result ≡ lacking_code (has_map self.now) (has_group self.now) (has_fold self.now) kind }
+        ensures { result ≡ lacking_code (stored self.now) kind }
     {
         match kind {
             Kind::Map(code) if !self.contains_map(code) => Some(code),
@@ -157,11 +152,7 @@ impl<M, G, F> Calls<M, G, F> {
 }
 
 impl<L: Law, M: MapCall<L>, G: GroupCall<L>, F: FoldCall<L>> Closures<L> for Calls<M, G, F> {
-    ghost has_map = { λ c. has_code M.code_of c.maps };
-
-    ghost has_group = { λ c. has_code G.code_of c.groups };
-
-    ghost has_fold = { λ c. has_code F.code_of c.folds };
+    ghost stored = { λ c. record { map = has_code M.code_of c.maps; group = has_code G.code_of c.groups; fold = has_code F.code_of c.folds } };
 
     fn map(&self, code: u16, port: u8, rec: Rec) -> Option<Few> {
         let call = self.maps.find(code)?;

@@ -4,7 +4,7 @@ ghost use Rattle.td_plan.specs.declared.vertex.Kind.TheVariants.{Map, Group, Fol
 ghost use Rattle.td_calls.specs.Stock.{stock, map_answers, group_answers, fold_answers};
 ghost use Rattle.td_catalogue.specs.Catalogue.{catalogue};
 ghost use Rattle.td_catalogue.specs.ProvedCatalogue.{catalogue_few};
-ghost use Rattle.td_catalogue.specs.Shelves.{in_catalogue, is_first};
+ghost use Rattle.td_catalogue.specs.Shelves.{codes, in_catalogue, is_first};
 
 use crate::fold_step::FoldStep;
 use crate::group_step::GroupStep;
@@ -26,11 +26,7 @@ impl Law for Catalogue {
 pub struct Shelves;
 
 impl Closures<Catalogue> for Shelves {
-    ghost has_map = { λ _ code. in_catalogue (Map code) };
-
-    ghost has_group = { λ _ code. in_catalogue (Group code) };
-
-    ghost has_fold = { λ _ code. in_catalogue (Fold code) };
+    ghost stored = { λ _. codes };
 
     fn map(&self, code: u16, port: u8, rec: Rec) -> Option<Few> {
         match MapStep::of(code) {

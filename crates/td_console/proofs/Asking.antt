@@ -3,7 +3,8 @@ use Rattle.std.proofs.Common.{◌≡◌, ◌⊎◌, inl, inr, ℕ, List, None, R
 use Rattle.td_console.specs.declared.faults.Fault.{Fault}
 use Rattle.td_console.specs.declared.faults.Fault.TheVariants.{Memory}
 use Rattle.td_console.specs.Parts.{wide_fault}
-use Rattle.td_console.specs.Answer.{Stored, IsAsciiAnswer, IsAnswerAt, IsAnswer}
+use Rattle.td_calls.specs.Stored.{Stored}
+use Rattle.td_console.specs.Answer.{IsAsciiAnswer, IsAnswerAt, IsAnswer}
 
 module _ (stored : Stored) (input text : List ℕ) (same : text ≡ input) (none : wide_fault input ≡ None) where
   of_text : (answer : Result (List ℕ) Fault) → IsAsciiAnswer stored text answer → IsAnswer stored input answer

@@ -6,7 +6,8 @@ use Rattle.td_plan.specs.Texts.{PlanText, PlanFault}
 use Rattle.td_console.specs.declared.faults.Fault.{Fault}
 use Rattle.td_console.specs.declared.faults.Fault.TheVariants.{Plan}
 use Rattle.td_console.specs.Parts.{plan_text, data_lines, first_data_line, wide_fault}
-use Rattle.td_console.specs.Answer.{Stored, plan_answer, IsAsciiAnswer, IsAnswerAt, IsAnswer}
+use Rattle.td_calls.specs.Stored.{Stored}
+use Rattle.td_console.specs.Answer.{plan_answer, IsAsciiAnswer, IsAnswerAt, IsAnswer}
 
 -- the laws of plan texts
 pub record PlanLaws : Type 0 where

@@ -21,6 +21,7 @@ use Rattle.td_calls.specs.declared.error.CallsError.{CallsError}
 use Rattle.td_calls.specs.declared.error.CallsError.TheVariants.{NoCall}
 use Rattle.td_calls.specs.Answers.{Answers}
 use Rattle.td_calls.specs.Fits.{first_lack, lacking_code}
+use Rattle.td_calls.specs.Stored.{Codes}
 use Rattle.td_machine.specs.declared.records.Message.{Message}
 use Rattle.td_machine.specs.State.{HallState, Task, Content, is_out}
 use Rattle.td_machine.specs.State.Content.{messages, notification}
@@ -224,20 +225,20 @@ nearer answers s T U (Some task) idle later t is few =
     omega (arith, below, next, is, few)
 
 -- closures that fit the plan
-module _ (maps groups folds : ℕ → Bool) where
+module _ (stored : Codes) where
   by_first : (p : PlacedVertex) (ps : List PlacedVertex) (lack : Option ℕ)
-      → ◌≡◌ {A = Option CallsError} (elim lack [ None ↦ first_lack maps groups folds ps | Some code ↦ Some (NoCall p.vertex.number code) ]) None
-      → (lack ≡ None) × (first_lack maps groups folds ps ≡ None)
+      → ◌≡◌ {A = Option CallsError} (elim lack [ None ↦ first_lack stored ps | Some code ↦ Some (NoCall p.vertex.number code) ]) None
+      → (lack ≡ None) × (first_lack stored ps ≡ None)
   by_first p ps None e = (refl, e)
   by_first p ps (Some code) e = cc
 
-  lacks_none_at : (ps : List PlacedVertex) (v : ℕ) → first_lack maps groups folds ps ≡ None → lacking_code maps groups folds (kind_or (option_map (λ p. p.vertex.kind) (slice_get ps v))) ≡ None
+  lacks_none_at : (ps : List PlacedVertex) (v : ℕ) → first_lack stored ps ≡ None → lacking_code stored (kind_or (option_map (λ p. p.vertex.kind) (slice_get ps v))) ≡ None
   lacks_none_at [] v e = refl
-  lacks_none_at (p ∷ ps) zero e = (by_first p ps (lacking_code maps groups folds p.vertex.kind) e).0
-  lacks_none_at (p ∷ ps) (suc v) e = lacks_none_at ps v (by_first p ps (lacking_code maps groups folds p.vertex.kind) e).1
+  lacks_none_at (p ∷ ps) zero e = (by_first p ps (lacking_code stored p.vertex.kind) e).0
+  lacks_none_at (p ∷ ps) (suc v) e = lacks_none_at ps v (by_first p ps (lacking_code stored p.vertex.kind) e).1
 
-  pub lacks_none : (plan : List PlanLine) (kind : Kind) (v : ℕ) → first_lack maps groups folds (vertices plan) ≡ None → kind ≡ kind_of plan v → lacking_code maps groups folds kind ≡ None
-  lacks_none plan kind v e k = ap (lacking_code maps groups folds) k ∙ lacks_none_at (vertices plan) v e
+  pub lacks_none : (plan : List PlanLine) (kind : Kind) (v : ℕ) → first_lack stored (vertices plan) ≡ None → kind ≡ kind_of plan v → lacking_code stored kind ≡ None
+  lacks_none plan kind v e k = ap (lacking_code stored) k ∙ lacks_none_at (vertices plan) v e
 
 -- the one task that is out
 pub out_there : (out : List Task) (task other : Task) → out ≡ task ∷ [] → other ≡ task → Contains out other

@@ -14,24 +14,13 @@ use Rattle.td_calls.specs.declared.error.CallsError.{CallsError}
 use Rattle.td_calls.specs.declared.error.CallsError.TheVariants as calls
 use Rattle.td_calls.specs.Answers.{Answers}
 use Rattle.td_calls.specs.Fits.{first_lack}
+use Rattle.td_calls.specs.Stored.{Stored}
 use Rattle.td_batch.specs.Meaning.{run, numbered}
 use Rattle.td_console.specs.declared.faults.Fault.{Fault}
 use Rattle.td_console.specs.declared.faults.Fault.TheVariants.{Plan, NoCall, Memory, Spent}
 use Rattle.td_console.specs.declared.faults.Fault.TheVariants as faults
 use Rattle.td_console.specs.Data.{batches_of, data_fault}
 use Rattle.td_console.specs.Parts.{plan_text, data_lines, first_data_line, wide_fault}
-
--- The closures that are stored: what they answer, and whether there is one of a code, of each kind
-pub record Stored : Type 0 where
-  pub answers : Answers
-  pub has_map : ℕ → Bool
-  pub has_group : ℕ → Bool
-  pub has_fold : ℕ → Bool
-
--- those of a store of closures, from the law that they answer and its words for the codes of each kind
-abbrev pub stored_in : {C : Type 0} → Answers → (C → ℕ → Bool) → (C → ℕ → Bool) → (C → ℕ → Bool) → C → Stored
-stored_in answers maps groups folds calls =
-    record { answers = answers; has_map = maps calls; has_group = groups calls; has_fold = folds calls }
 
 -- an output record's line: `EPOCH VERTEX KEY VAL`
 abbrev pub output_line : ℕ → Output → List ℕ
@@ -62,7 +51,7 @@ answer_or_fault text None = Ok text
 -- the answer of a plan to data lines, of which the first has the number n; a missing closure comes first
 abbrev pub plan_answer : Stored → List PlanLine → ℕ → List (List ℕ) → Result (List ℕ) Fault
 plan_answer stored plan n lines =
-    elim (first_lack stored.has_map stored.has_group stored.has_fold (vertices plan))
+    elim (first_lack stored.codes (vertices plan))
     [ Some lack ↦ Err (lack_fault lack) | None ↦ answer_or_fault (run_text stored.answers plan lines) (data_fault plan n lines) ]
 
 -- the answer where the input is ASCII: that of the plan, or its refusal

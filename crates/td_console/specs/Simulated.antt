@@ -4,7 +4,8 @@ use Rattle.std.specs.Io.KnownBytes.{Appends}
 use Rattle.td_stamp.specs.declared.values.Entry.{Entry}
 use Rattle.td_plan.specs.Lines.{Line as PlanLine}
 use Rattle.td_machine.specs.State.{Task}
-use Rattle.td_console.specs.Answer.{Stored, Asks, lines_of_run}
+use Rattle.td_calls.specs.Stored.{Stored}
+use Rattle.td_console.specs.Answer.{Asks, lines_of_run}
 use Rattle.td_console.specs.Turns.{IsSimulated, notes_of}
 
 -- THE TEXT OF A SIMULATION of an input: the notes of the notifications that were given, turn by turn, and then the answer text

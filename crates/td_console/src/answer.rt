@@ -26,7 +26,7 @@ pub(crate) fn run_text<L: Law, C: Closures<L>>(
     calls: &C,
     batches: Vec<Batch>,
 ) -> Result<String, Fault>
-    requires fits { first_lack (C.has_map calls.now) (C.has_group calls.now) (C.has_fold calls.now) (vertices plan.now) ≡ None }
+    requires fits { first_lack (C.stored calls.now) (vertices plan.now) ≡ None }
     requires accepted { All (λ batch. IsTrue (list_all (λ e. is_input_of plan.now e.input) batch)) batches.items }
     requires few { length batches.items < 2 ^ 63 }
     ensures ok { IfOk result (λ text. string_bytes text ≡ lines_of_run L.answers plan.now batches.items) }

@@ -4,7 +4,8 @@ ghost use Rattle.std.specs.List.{list_all};
 ghost use Rattle.td_plan.specs.Blocks.{vertices};
 ghost use Rattle.td_plan.specs.Inputs.{is_input_of};
 ghost use Rattle.td_calls.specs.Fits.{first_lack};
-ghost use Rattle.td_console.specs.Answer.{stored_in, Asks, IsAnswer, WritesAnswer, LacksRoom, IsFaultAt, IsHallFaultAt};
+ghost use Rattle.td_calls.specs.Stored.{stored_in};
+ghost use Rattle.td_console.specs.Answer.{Asks, IsAnswer, WritesAnswer, LacksRoom, IsFaultAt, IsHallFaultAt};
 ghost use Rattle.td_console.specs.Simulated.{WritesSimulated, LacksRoomSimulated};
 ghost use Rattle.td_console.specs.CodeSteps.{IsOfReading};
 
@@ -34,16 +35,16 @@ pub fn batch<R: Source, W: Sink, L: Law, C: Closures<L>>(
     calls: &C,
 ) -> Result<(), Fault>
     ensures ok { OnOk result (IfSome (R.remaining reader.old)
-        (WritesAnswer (stored_in L.answers C.has_map C.has_group C.has_fold calls.now) (W.contents writer.old) (W.contents writer.new))) }
+        (WritesAnswer (stored_in L.answers (C.stored calls.now)) (W.contents writer.old) (W.contents writer.new))) }
     ensures fault { IfErr result
-        (IsFaultAt (stored_in L.answers C.has_map C.has_group C.has_fold calls.now) (R.remaining reader.old)) }
+        (IsFaultAt (stored_in L.answers (C.stored calls.now)) (R.remaining reader.old)) }
     // It has read all.
     ensures end { OnOk result (IfSome (R.remaining reader.new) (λ rest. rest ≡ [])) }
     // Where the end comes within the bound, and no read fails but for an interruption, the fault is none of the reader's.
     ensures input { R.EndsWithin reader.old (2 ^ 32) → IfErr result (λ f. f ≢ Fault.Input) }
     // Where the writer fails, there was an answer, and it had no room for it.
     ensures output { IfErr result (λ f. f ≡ Fault.Output → IfSome (R.remaining reader.old)
-        (LacksRoom (stored_in L.answers C.has_map C.has_group C.has_fold calls.now) (W.HasRoom writer.old))) }
+        (LacksRoom (stored_in L.answers (C.stored calls.now)) (W.HasRoom writer.old))) }
     // A writer that has room for any text does not fail.
     ensures room { ((n : ℕ) → W.HasRoom writer.old n) → IfErr result (λ f. f ≢ Fault.Output) }
     ensures nothing { IfErr result (λ f. (f ≡ Fault.Output) ⊎ (writer.new ≡ writer.old)) }
@@ -65,13 +66,13 @@ pub fn run<R: Source, W: Sink, L: Law, C: Closures<L>>(
     requires some { 1 ≤ workers }
     requires most { workers ≤ 16 }
     ensures ok { OnOk result (IfSome (R.remaining reader.old)
-        (WritesAnswer (stored_in L.answers C.has_map C.has_group C.has_fold calls.now) (W.contents writer.old) (W.contents writer.new))) }
+        (WritesAnswer (stored_in L.answers (C.stored calls.now)) (W.contents writer.old) (W.contents writer.new))) }
     ensures fault { IfErr result
-        (IsHallFaultAt (stored_in L.answers C.has_map C.has_group C.has_fold calls.now) (R.remaining reader.old)) }
+        (IsHallFaultAt (stored_in L.answers (C.stored calls.now)) (R.remaining reader.old)) }
     ensures end { OnOk result (IfSome (R.remaining reader.new) (λ rest. rest ≡ [])) }
     ensures input { R.EndsWithin reader.old (2 ^ 32) → IfErr result (λ f. f ≢ Fault.Input) }
     ensures output { IfErr result (λ f. f ≡ Fault.Output → IfSome (R.remaining reader.old)
-        (LacksRoom (stored_in L.answers C.has_map C.has_group C.has_fold calls.now) (W.HasRoom writer.old))) }
+        (LacksRoom (stored_in L.answers (C.stored calls.now)) (W.HasRoom writer.old))) }
     ensures room { ((n : ℕ) → W.HasRoom writer.old n) → IfErr result (λ f. f ≢ Fault.Output) }
     ensures nothing { IfErr result (λ f. (f ≡ Fault.Output) ⊎ (writer.new ≡ writer.old)) }
 {
@@ -95,13 +96,13 @@ pub fn sim<R: Source, W: Sink, L: Law, C: Closures<L>>(
     requires most { workers ≤ 16 }
     requires picks { 0 < length picks.now }
     ensures ok { OnOk result (IfSome (R.remaining reader.old)
-        (WritesSimulated (stored_in L.answers C.has_map C.has_group C.has_fold calls.now) workers (W.contents writer.old) (W.contents writer.new))) }
+        (WritesSimulated (stored_in L.answers (C.stored calls.now)) workers (W.contents writer.old) (W.contents writer.new))) }
     ensures fault { IfErr result
-        (IsHallFaultAt (stored_in L.answers C.has_map C.has_group C.has_fold calls.now) (R.remaining reader.old)) }
+        (IsHallFaultAt (stored_in L.answers (C.stored calls.now)) (R.remaining reader.old)) }
     ensures end { OnOk result (IfSome (R.remaining reader.new) (λ rest. rest ≡ [])) }
     ensures input { R.EndsWithin reader.old (2 ^ 32) → IfErr result (λ f. f ≢ Fault.Input) }
     ensures output { IfErr result (λ f. f ≡ Fault.Output → IfSome (R.remaining reader.old)
-        (LacksRoomSimulated (stored_in L.answers C.has_map C.has_group C.has_fold calls.now) workers (W.HasRoom writer.old))) }
+        (LacksRoomSimulated (stored_in L.answers (C.stored calls.now)) workers (W.HasRoom writer.old))) }
     ensures room { ((n : ℕ) → W.HasRoom writer.old n) → IfErr result (λ f. f ≢ Fault.Output) }
     ensures nothing { IfErr result (λ f. (f ≡ Fault.Output) ⊎ (writer.new ≡ writer.old)) }
 {
@@ -117,13 +118,13 @@ fn read_question<R: Source, L: Law, C: Closures<L>>(
     calls: &C,
 ) -> Result<Question, Fault>
     ensures asks { IfOk result (λ asked. IfSome (R.remaining reader.old) (λ input.
-        Asks (stored_in L.answers C.has_map C.has_group C.has_fold calls.now) input asked.plan asked.batches.items)) }
-    ensures fits { IfOk result (λ asked. first_lack (C.has_map calls.now) (C.has_group calls.now) (C.has_fold calls.now) (vertices asked.plan) ≡ None) }
+        Asks (stored_in L.answers (C.stored calls.now)) input asked.plan asked.batches.items)) }
+    ensures fits { IfOk result (λ asked. first_lack (C.stored calls.now) (vertices asked.plan) ≡ None) }
     ensures accepted { IfOk result (λ asked. All (λ batch. IsTrue (list_all (λ e. is_input_of asked.plan e.input) batch)) asked.batches.items) }
     ensures few { IfOk result (λ asked. length asked.batches.items < 2 ^ 63) }
     ensures end { OnOk result (IfSome (R.remaining reader.new) (λ rest. rest ≡ [])) }
     ensures fault { IfErr result (λ f. (f ≡ Fault.Input) ⊎ ((f ≡ Fault.Memory) ⊎ IfSome (R.remaining reader.old) (λ input.
-        IsAnswer (stored_in L.answers C.has_map C.has_group C.has_fold calls.now) input (Err f)))) }
+        IsAnswer (stored_in L.answers (C.stored calls.now)) input (Err f)))) }
     ensures own { IfErr result IsOfReading }
     ensures input { R.EndsWithin reader.old (2 ^ 32) → IfErr result (λ f. f ≢ Fault.Input) }
 {

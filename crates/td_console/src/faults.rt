@@ -9,7 +9,6 @@ ghost use Rattle.td_console.specs.Refusals.{number_of, fault_text, line_fault_te
 use std::alloc::{AllocError, AllocFailed, Global};
 use std::error::Error;
 use std::fmt;
-use td_batch::BatchError;
 use td_disk::MakeError;
 use td_plan::PlanError;
 use td_stamp::StampError;
@@ -140,14 +139,6 @@ impl From<StampError> for Fault {
     ghost from_gives = { λ _ f. f ≡ Memory };
 
     fn from(_error: StampError) -> Fault {
-        Fault::Memory
-    }
-}
-
-impl From<BatchError> for Fault {
-    ghost from_gives = { λ _ f. f ≡ Memory };
-
-    fn from(_error: BatchError) -> Fault {
         Fault::Memory
     }
 }

@@ -37,7 +37,7 @@ pub(crate) fn hall_text<L: Law, C: Closures<L>>(
     batches: Vec<Batch>,
     workers: u8,
 ) -> Result<String, Fault>
-    requires fits { first_lack (C.has_map calls.now) (C.has_group calls.now) (C.has_fold calls.now) (vertices plan.now) ≡ None }
+    requires fits { first_lack (C.stored calls.now) (vertices plan.now) ≡ None }
     requires accepted { All (λ batch. IsTrue (list_all (λ e. is_input_of plan.now e.input) batch)) batches.items }
     requires few { length batches.items < 2 ^ 63 }
     requires some { 1 ≤ workers }
@@ -98,7 +98,7 @@ fn run_epoch<L: Law, C: Closures<L>>(
     calls: &C,
     batch: Batch,
 ) -> Result<(), Fault>
-    requires fits { first_lack (C.has_map calls.now) (C.has_group calls.now) (C.has_fold calls.now) (vertices hall.old.plan) ≡ None }
+    requires fits { first_lack (C.stored calls.now) (vertices hall.old.plan) ≡ None }
     requires accepted { accepts hall.old.plan batch ≡ true }
     requires below { hall.old.next < ends }
     requires between { IsBetween hall.old }

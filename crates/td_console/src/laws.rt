@@ -1,7 +1,8 @@
 //! Laws of the definitions. Each is the contract of a function that does nothing.
 ghost use Rattle.std.specs.Prelude.{◌≡◌, ℕ, List, Result};
 ghost use Rattle.td_console.specs.declared.faults.Fault.{Fault as AnyFault};
-ghost use Rattle.td_console.specs.Answer.{Stored, IsAnswer};
+ghost use Rattle.td_calls.specs.Stored.{Stored};
+ghost use Rattle.td_console.specs.Answer.{IsAnswer};
 
 use td_plan::laws::one_answer as one_plan_answer;
 

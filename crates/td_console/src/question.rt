@@ -6,7 +6,8 @@ ghost use Rattle.td_plan.specs.Inputs.{is_input_of};
 ghost use Rattle.td_plan.specs.Text.{text_lines};
 ghost use Rattle.td_plan.specs.Texts.{PlanText};
 ghost use Rattle.td_calls.specs.Fits.{first_lack};
-ghost use Rattle.td_console.specs.Answer.{stored_in, IsAnswer, IsAsciiAnswer, plan_answer, lack_fault, lines_of_run};
+ghost use Rattle.td_calls.specs.Stored.{stored_in};
+ghost use Rattle.td_console.specs.Answer.{IsAnswer, IsAsciiAnswer, plan_answer, lack_fault, lines_of_run};
 ghost use Rattle.td_console.specs.Parts.{plan_text, data_lines};
 ghost use Rattle.td_console.specs.Data.{batches_of};
 ghost use Rattle.td_console.specs.CodeSteps.{IsOfInput};
@@ -34,14 +35,14 @@ pub(crate) fn asked_by<L: Law, C: Closures<L>>(
 ) -> Result<Question, Fault>
     requires bound { length input.now ≤ 2 ^ 44 }
     ensures ok { IfOk result (λ asked.
-        IsAnswer (stored_in L.answers C.has_map C.has_group C.has_fold calls.now) input.now (Ok (lines_of_run L.answers asked.plan asked.batches.items))) }
+        IsAnswer (stored_in L.answers (C.stored calls.now)) input.now (Ok (lines_of_run L.answers asked.plan asked.batches.items))) }
     ensures plan { IfOk result (λ asked. PlanText (plan_text input.now) asked.plan) }
     ensures batches { IfOk result (λ asked. asked.batches.items ≡ batches_of (data_lines input.now)) }
-    ensures fits { IfOk result (λ asked. first_lack (C.has_map calls.now) (C.has_group calls.now) (C.has_fold calls.now) (vertices asked.plan) ≡ None) }
+    ensures fits { IfOk result (λ asked. first_lack (C.stored calls.now) (vertices asked.plan) ≡ None) }
     ensures accepted { IfOk result (λ asked. All (λ batch. IsTrue (list_all (λ e. is_input_of asked.plan e.input) batch)) asked.batches.items) }
     ensures few { IfOk result (λ asked. length asked.batches.items < 2 ^ 63) }
     ensures err { IfErr result (λ f. (f ≡ Fault.Memory)
-        ⊎ IsAnswer (stored_in L.answers C.has_map C.has_group C.has_fold calls.now) input.now (Err f)) }
+        ⊎ IsAnswer (stored_in L.answers (C.stored calls.now)) input.now (Err f)) }
     ensures own { IfErr result IsOfInput }
 {
     match ascii_text(input) {
@@ -58,14 +59,14 @@ fn question_of_text<L: Law, C: Closures<L>>(
 ) -> Result<Question, Fault>
     requires bound { length input.now ≤ 2 ^ 44 }
     ensures ok { IfOk result (λ asked.
-        IsAsciiAnswer (stored_in L.answers C.has_map C.has_group C.has_fold calls.now) input.now (Ok (lines_of_run L.answers asked.plan asked.batches.items))) }
+        IsAsciiAnswer (stored_in L.answers (C.stored calls.now)) input.now (Ok (lines_of_run L.answers asked.plan asked.batches.items))) }
     ensures plan { IfOk result (λ asked. PlanText (plan_text input.now) asked.plan) }
     ensures batches { IfOk result (λ asked. asked.batches.items ≡ batches_of (data_lines input.now)) }
-    ensures fits { IfOk result (λ asked. first_lack (C.has_map calls.now) (C.has_group calls.now) (C.has_fold calls.now) (vertices asked.plan) ≡ None) }
+    ensures fits { IfOk result (λ asked. first_lack (C.stored calls.now) (vertices asked.plan) ≡ None) }
     ensures accepted { IfOk result (λ asked. All (λ batch. IsTrue (list_all (λ e. is_input_of asked.plan e.input) batch)) asked.batches.items) }
     ensures few { IfOk result (λ asked. length asked.batches.items < 2 ^ 63) }
     ensures err { IfErr result (λ f. (f ≡ Fault.Memory)
-        ⊎ IsAsciiAnswer (stored_in L.answers C.has_map C.has_group C.has_fold calls.now) input.now (Err f)) }
+        ⊎ IsAsciiAnswer (stored_in L.answers (C.stored calls.now)) input.now (Err f)) }
     ensures own { IfErr result IsOfInput }
 {
     let parts = split_input(input);
@@ -89,14 +90,14 @@ fn batches_for<L: Law, C: Closures<L>>(
 ) -> Result<Vec<Batch>, Fault>
     requires bound { first + length lines.now ≤ 2 ^ 44 + 2 }
     ensures ok { IfOk result (λ batches.
-        plan_answer (stored_in L.answers C.has_map C.has_group C.has_fold calls.now) plan.now first (text_lines lines.now)
+        plan_answer (stored_in L.answers (C.stored calls.now)) plan.now first (text_lines lines.now)
         ≡ Ok (lines_of_run L.answers plan.now batches.items)) }
     ensures batches { IfOk result (λ batches. batches.items ≡ batches_of (text_lines lines.now)) }
-    ensures fits { IfOk result (λ batches. first_lack (C.has_map calls.now) (C.has_group calls.now) (C.has_fold calls.now) (vertices plan.now) ≡ None) }
+    ensures fits { IfOk result (λ batches. first_lack (C.stored calls.now) (vertices plan.now) ≡ None) }
     ensures accepted { IfOk result (λ batches. All (λ batch. IsTrue (list_all (λ e. is_input_of plan.now e.input) batch)) batches.items) }
     ensures few { IfOk result (λ batches. length batches.items < 2 ^ 63) }
     ensures err { IfErr result (λ f. (f ≡ Fault.Memory)
-        ⊎ (plan_answer (stored_in L.answers C.has_map C.has_group C.has_fold calls.now) plan.now first (text_lines lines.now) ≡ Err f)) }
+        ⊎ (plan_answer (stored_in L.answers (C.stored calls.now)) plan.now first (text_lines lines.now) ≡ Err f)) }
     ensures own { IfErr result IsOfInput }
 {
     if let Err(lack) = calls.fits(plan) {

@@ -35,7 +35,7 @@ pub(crate) fn sim_text<L: Law, C: Closures<L>>(
     workers: u8,
     picks: &[u64],
 ) -> Result<String, Fault>
-    requires fits { first_lack (C.has_map calls.now) (C.has_group calls.now) (C.has_fold calls.now) (vertices plan.now) ≡ None }
+    requires fits { first_lack (C.stored calls.now) (vertices plan.now) ≡ None }
     requires accepted { All (λ batch. IsTrue (list_all (λ e. is_input_of plan.now e.input) batch)) batches.items }
     requires few { length batches.items < 2 ^ 63 }
     requires some { 1 ≤ workers }
@@ -65,7 +65,7 @@ fn play<L: Law, C: Closures<L>>(
     picks: &[u64],
     text: &mut String,
 ) -> Result<(), Fault>
-    requires fits { first_lack (C.has_map calls.now) (C.has_group calls.now) (C.has_fold calls.now) (vertices hall.old.plan) ≡ None }
+    requires fits { first_lack (C.stored calls.now) (vertices hall.old.plan) ≡ None }
     requires some { 1 ≤ workers }
     requires most { workers ≤ 16 }
     requires picks { 0 < length picks.now }
@@ -121,7 +121,7 @@ fn turn<L: Law, C: Closures<L>>(
     pick: u64,
     text: &mut String,
 ) -> Result<bool, Fault>
-    requires fits { first_lack (C.has_map calls.now) (C.has_group calls.now) (C.has_fold calls.now) (vertices hall.old.plan) ≡ None }
+    requires fits { first_lack (C.stored calls.now) (vertices hall.old.plan) ≡ None }
     requires none_out { hall.old.out ≡ [] }
     ensures none { IfOk result (λ worked. worked ≡ false → IsTurn L.answers shard hall.old None hall.new × (string_bytes text.new ≡ string_bytes text.old)) }
     ensures worked { IfOk result (λ worked. worked ≡ true → (task : AnyTask) × IsTurn L.answers shard hall.old (Some task) hall.new

@@ -1,3 +1,4 @@
+pub mod Known
 pub mod Refusals
 pub mod Came
 pub mod Sites

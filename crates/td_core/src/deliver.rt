@@ -19,18 +19,18 @@ ghost use Rattle.td_task.specs.Answered.{left_for};
 
 use crate::error::HallError;
 use crate::hall::{Floor, Sites};
+use crate::known::known;
 use crate::posting::{Rise, lower, make_room, post, raise, rises_on};
 use std::alloc::{AllocError, Global};
 use td_calls::Law;
 use td_machine::StateLeft;
-use td_machine::laws::{bags_of_states, in_parts, reached_in_order, sends_of_plan, turns_of_plan};
+use td_machine::laws::in_parts;
 use td_plan::Kind;
 use td_progress::Table;
 use td_progress::laws::counted;
 use td_reach::{Place, Stamp};
 use td_shard::{Outlet, Shard, Versions};
 use td_stamp::{Rec, State, Time};
-use td_task::laws::{a_notification_leaves, a_notification_sends, counts};
 use td_task::{Done, KeyedItems, Task};
 
 /// Has the records of a task that is out come to its vertex (Naiad, section 2.2: OnRecv): what they send is posted, and what
@@ -48,13 +48,7 @@ pub(crate) fn deliver<L: Law>(
     ensures err { OnErr result (IsUntouched floor.old floor.new) }
     ensures memory { IfErr result (λ e. e ≡ Memory) }
 {
-    reached_in_order::<L>();
-    sends_of_plan::<L>();
-    turns_of_plan();
-    in_parts();
-    bags_of_states();
-    counted();
-    td_task::laws::a_map_sends::<L>();
+    known::<L>();
     let task = done.task();
     let (vertex, time) = (task.vertex(), task.time());
     match task.kind() {
@@ -245,14 +239,7 @@ pub(crate) fn notify<L: Law>(
     ensures err { OnErr result (IsUntouched floor.old floor.new) }
     ensures memory { IfErr result (λ e. e ≡ Memory) }
 {
-    reached_in_order::<L>();
-    sends_of_plan::<L>();
-    bags_of_states();
-    in_parts();
-    counted();
-    a_notification_sends::<L>();
-    a_notification_leaves::<L>();
-    counts::<L>();
+    known::<L>();
     let task = done.task();
     let sent = done.sent();
     let outlets = outlets_for(&floor.sites, task.vertex(), sent);

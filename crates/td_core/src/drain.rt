@@ -27,18 +27,15 @@ ghost use Rattle.td_core.specs.Sites.{IsSites, edge_in};
 use crate::deliver::{deliver, notify};
 use crate::error::HallError;
 use crate::hall::{Floor, Hall, Sites};
+use crate::known::known;
 use crate::posting::Rise;
 use crate::take::{put_back, take_floor};
 use td_calls::{Closures, Law};
 use td_machine::TASK_SIZE;
-use td_machine::laws::{
-    bags_of_states, delivered_at_once, exact_work_drained, in_parts, never_stuck, plays_join,
-    reached, reached_in_order, stamps_move, what_waits,
-};
+use td_machine::laws::{in_parts, plays_join, reached_in_order};
 use td_progress::laws::counted;
 use td_reach::{Place, Stamp};
 use td_shard::Shard;
-use td_stamp::laws::time_list_order;
 use td_task::{Done, Task, TaskError, Work};
 
 /// What a drain delivered.
@@ -56,7 +53,7 @@ impl<L: Law> Hall<L> {
     /// task is out, with nothing changed; `Memory`, and `Spent` where there is something to take and all numbers of tasks
     /// are used, with no task out and nothing lost: what was given so far stays given, and a later drain goes on from there.
     pub fn drain<C: Closures<L>>(&mut self, calls: &C) -> Result<Drained, HallError>
-        requires fits { first_lack (C.has_map calls.now) (C.has_group calls.now) (C.has_fold calls.now) (vertices self.old.plan) ≡ None }
+        requires fits { first_lack (C.stored calls.now) (vertices self.old.plan) ≡ None }
         ensures busy { IsErrAnd result (λ e. e ≡ Busy) ↔ (0 < length self.old.out) }
         ensures same { 0 < length self.old.out → self.new ≡ self.old }
         ensures worked { self.old.out ≡ [] → (records : ℕ) × (notifications : ℕ) × Works L.answers self.old records notifications self.new }
@@ -70,10 +67,7 @@ impl<L: Law> Hall<L> {
         ensures exact { IfOk result (λ drained. IsExact L.answers self.old drained.messages drained.notes) }
         ensures fresh { IfOk result (λ drained. IsExactFresh L.answers self.old drained.messages drained.notes) }
     {
-        plays_join::<L>();
-        exact_work_drained::<L>();
-        never_stuck::<L>();
-        reached_in_order::<L>();
+        known::<L>();
         if !self.floor.out.is_empty() {
             return Err(HallError::Busy);
         }
@@ -93,7 +87,7 @@ impl<L: Law> Hall<L> {
         calls: &C,
         shard: u8,
     ) -> Result<Option<Drained>, HallError>
-        requires fits { first_lack (C.has_map calls.now) (C.has_group calls.now) (C.has_fold calls.now) (vertices self.old.plan) ≡ None }
+        requires fits { first_lack (C.stored calls.now) (vertices self.old.plan) ≡ None }
         requires none_out { self.old.out ≡ [] }
         requires within { shard < self.old.workers }
         ensures turn { IfOk result (λ delivered. IsTurnIf L.answers self.old shard delivered self.new) }
@@ -112,7 +106,7 @@ fn drain_floor<L: Law, C: Closures<L>>(
     calls: &C,
     drained: &mut Drained,
 ) -> Result<(), HallError>
-    requires fits { first_lack (C.has_map calls.now) (C.has_group calls.now) (C.has_fold calls.now) (vertices floor.old.table.plan) ≡ None }
+    requires fits { first_lack (C.stored calls.now) (vertices floor.old.table.plan) ≡ None }
     requires idle { IsIdle L.answers floor.old drained.old }
     ensures further { IsFurther L.answers floor.old drained.old floor.new drained.new }
     ensures none_left { OnOk result (HasNone (state_of floor.new)) }
@@ -141,7 +135,7 @@ fn go_round<L: Law, C: Closures<L>>(
     calls: &C,
     drained: &mut Drained,
 ) -> Result<(), HallError>
-    requires fits { first_lack (C.has_map calls.now) (C.has_group calls.now) (C.has_fold calls.now) (vertices floor.old.table.plan) ≡ None }
+    requires fits { first_lack (C.stored calls.now) (vertices floor.old.table.plan) ≡ None }
     requires idle { IsIdle L.answers floor.old drained.old }
     ensures further { IsFurther L.answers floor.old drained.old floor.new drained.new }
     ensures none_left { OnOk result (floor.new.taken ≡ floor.old.taken → HasNone (state_of floor.new)) }
@@ -160,7 +154,7 @@ fn clear<L: Law, C: Closures<L>>(
     shard: u8,
     drained: &mut Drained,
 ) -> Result<(), HallError>
-    requires fits { first_lack (C.has_map calls.now) (C.has_group calls.now) (C.has_fold calls.now) (vertices floor.old.table.plan) ≡ None }
+    requires fits { first_lack (C.stored calls.now) (vertices floor.old.table.plan) ≡ None }
     requires idle { IsIdle L.answers floor.old drained.old }
     requires within { shard < length floor.old.shards.items }
     ensures further { IsFurther L.answers floor.old drained.old floor.new drained.new }
@@ -183,7 +177,7 @@ fn advance<L: Law, C: Closures<L>>(
     calls: &C,
     shard: u8,
 ) -> Result<Option<Drained>, HallError>
-    requires fits { first_lack (C.has_map calls.now) (C.has_group calls.now) (C.has_fold calls.now) (vertices floor.old.table.plan) ≡ None }
+    requires fits { first_lack (C.stored calls.now) (vertices floor.old.table.plan) ≡ None }
     requires hall { IsHall L.answers floor.old }
     requires none_out { floor.old.out.items ≡ [] }
     requires within { shard < length floor.old.shards.items }
@@ -213,7 +207,7 @@ fn run_and_give<L: Law, C: Closures<L>>(
     calls: &C,
     task: Task,
 ) -> Result<(), HallError>
-    requires fits { first_lack (C.has_map calls.now) (C.has_group calls.now) (C.has_fold calls.now) (vertices floor.old.table.plan) ≡ None }
+    requires fits { first_lack (C.stored calls.now) (vertices floor.old.table.plan) ≡ None }
     requires hall { IsHall L.answers floor.old }
     requires out { floor.old.out.items ≡ task ∷ [] }
     requires kind { task.kind ≡ kind_of floor.old.table.plan task.vertex }
@@ -305,15 +299,7 @@ pub(crate) fn give_floor<L: Law>(
     ensures err { OnErr result (IsUntouched floor.old floor.new) }
     ensures memory { IfErr result (λ e. e ≡ Memory) }
 {
-    reached::<L>();
-    reached_in_order::<L>();
-    stamps_move::<L>();
-    delivered_at_once::<L>();
-    bags_of_states();
-    in_parts();
-    what_waits();
-    counted();
-    time_list_order();
+    known::<L>();
     answer::<L>(floor, done)?;
     end(floor, place, done.task());
     Ok(())

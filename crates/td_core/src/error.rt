@@ -4,9 +4,6 @@ ghost use Rattle.td_core.specs.Refusals.{number_of};
 ghost use Rattle.td_core.specs.declared.error.HallError.TheVariants.{Memory};
 
 use std::alloc::{AllocError, AllocFailed};
-use td_progress::ProgressError;
-use td_reach::ReachError;
-use td_shard::ShardError;
 use td_stamp::StampError;
 use thiserror::Error;
 
@@ -69,30 +66,6 @@ impl<T: Drop> From<AllocFailed<T>> for HallError {
     ghost from_gives = { λ _ e. e ≡ Memory };
 
     fn from(_failed: AllocFailed<T>) -> HallError {
-        HallError::Memory
-    }
-}
-
-impl From<ProgressError> for HallError {
-    ghost from_gives = { λ _ e. e ≡ Memory };
-
-    fn from(_error: ProgressError) -> HallError {
-        HallError::Memory
-    }
-}
-
-impl From<ReachError> for HallError {
-    ghost from_gives = { λ _ e. e ≡ Memory };
-
-    fn from(_error: ReachError) -> HallError {
-        HallError::Memory
-    }
-}
-
-impl From<ShardError> for HallError {
-    ghost from_gives = { λ _ e. e ≡ Memory };
-
-    fn from(_error: ShardError) -> HallError {
         HallError::Memory
     }
 }

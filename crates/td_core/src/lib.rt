@@ -9,7 +9,7 @@
 //! most that may come, and makes its one other growth last; what follows takes no memory. So a call that was refused can be made
 //! again.
 //!
-//! With one shard, `release`, `drain` and `collect` in turn run a plan epoch by epoch, as `td run` does.
+//! For example with one shard `release`, `drain` and `collect` in turn run a plan epoch by epoch, as `td run` does.
 #![tactic(auto)]
 
 mod collect;
@@ -18,6 +18,7 @@ mod deliver;
 mod drain;
 mod error;
 mod hall;
+mod known;
 pub mod laws;
 mod posting;
 mod release;

@@ -15,13 +15,11 @@ ghost use Rattle.td_reach.specs.declared.stamp.Stamp.{Stamp as AnyStamp};
 
 use crate::error::HallError;
 use crate::hall::{Floor, Hall, Sites};
+use crate::known::known;
 use crate::posting::{Counts, Rise, count, make_room_for, post, raise, rises_on};
 use std::alloc::{AllocError, Global};
 use td_calls::Law;
-use td_machine::laws::{
-    bags_of_states, come_of_plan, in_parts, reached, reached_in_order, sent_of_plan, stamps_move,
-};
-use td_plan::laws::look_ups;
+use td_machine::laws::reached;
 use td_progress::Table;
 use td_progress::laws::counted;
 use td_reach::{Place, Stamp};
@@ -51,11 +49,7 @@ impl<L: Law> Hall<L> {
         ensures err { OnErr result (self.new ≡ self.old) }
         ensures back { IfErr result (λ e. e.1 ≡ batch) }
     {
-        reached::<L>();
-        reached_in_order::<L>();
-        stamps_move::<L>();
-        bags_of_states();
-        counted();
+        known::<L>();
         if self.floor.closed {
             return Err((HallError::Closed, batch));
         }
@@ -84,13 +78,8 @@ fn bring_in<L: Law>(floor: &mut Floor, batch: &Batch) -> Result<u64, HallError>
     ensures err { OnErr result (IsAsBefore floor.old floor.new) }
     ensures memory { IfErr result (λ e. e ≡ Memory) }
 {
-    in_parts();
-    sent_of_plan();
-    come_of_plan::<L>();
-    reached_in_order::<L>();
-    look_ups();
+    known::<L>();
     bags_by_any_order::<Entry>();
-    counted();
     let _ = batch.list();
     let epoch = floor.next;
     let loads = loads_of(floor.alloc, floor.inputs.as_slice(), batch)?;

@@ -25,16 +25,14 @@ ghost use Rattle.td_core.specs.declared.error.HallError.TheVariants.{Memory};
 
 use crate::error::HallError;
 use crate::hall::{Floor, Hall, Sites};
+use crate::known::known;
 use std::alloc::Global;
 use std::sync::Arc;
 use td_calls::Law;
-use td_machine::laws::{
-    active_of_plan, asked_where_notified, bags_of_states, none_left, reached, reached_in_order,
-    what_waits,
-};
+use td_machine::laws::{bags_of_states, reached_in_order};
 use td_plan::Kind;
 use td_progress::Table;
-use td_progress::laws::{counted, in_any_order};
+use td_progress::laws::counted;
 use td_reach::{Place, Stamp};
 use td_shard::laws::tasks;
 use td_shard::{Noted, Shard, Versions, Waiting};
@@ -99,17 +97,7 @@ pub(crate) fn take_floor<L: Law>(
     ensures parts { IfOk result (IsTakenIf floor.old floor.new) }
     ensures err { OnErr result (IsSame floor.old floor.new) }
 {
-    reached::<L>();
-    reached_in_order::<L>();
-    active_of_plan::<L>();
-    asked_where_notified::<L>();
-    bags_of_states();
-    none_left();
-    what_waits();
-    tasks();
-    counted();
-    in_any_order();
-    time_list_order();
+    known::<L>();
     if is_busy(floor.out.as_slice(), shard) {
         return Err(HallError::Busy);
     }
@@ -124,17 +112,7 @@ fn has_task_at<L: Law>(floor: &Floor, shard: u8) -> bool
     requires hall { IsHall L.answers floor.now }
     ensures { IsTrue result ↔ ((is_out (state_of floor.now) shard ≡ false) × ((task : AnyTask) × MayTake (state_of floor.now) shard task)) }
 {
-    reached::<L>();
-    reached_in_order::<L>();
-    active_of_plan::<L>();
-    asked_where_notified::<L>();
-    bags_of_states();
-    none_left();
-    what_waits();
-    tasks();
-    counted();
-    in_any_order();
-    time_list_order();
+    known::<L>();
     if is_busy(floor.out.as_slice(), shard) {
         return false;
     }

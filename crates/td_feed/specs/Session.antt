@@ -5,6 +5,7 @@ use Rattle.td_plan.specs.Blocks.{vertices}
 use Rattle.td_calls.specs.Answers.{Answers}
 use Rattle.td_calls.specs.declared.error.CallsError.{CallsError}
 use Rattle.td_calls.specs.Fits.{first_lack}
+use Rattle.td_calls.specs.Stored.{Codes}
 use Rattle.td_watch.specs.View.{View}
 use Rattle.td_head.specs.declared.head.Head.{Head}
 use Rattle.td_disk.specs.Disk.{DiskView, DiskState}
@@ -35,9 +36,9 @@ use Rattle.td_feed.specs.Carried.{batch_in, new_to, is_refused, Carries, Leaves}
 use Rattle.td_feed.specs.Copied.{Copied, with_copies, labels, IsCopyOf, MakesCopies}
 use Rattle.td_feed.specs.Said.{Wanted, SaysBy, SaysFed, copies_said, Refuses}
 
--- the first vertex of a plan whose closure is lacking, by the words of these closures for the codes of each kind
-abbrev pub lack_of : {C : Type 0} → (C → ℕ → Bool) → (C → ℕ → Bool) → (C → ℕ → Bool) → C → List PlanLine → Option CallsError
-lack_of has_map has_group has_fold calls plan = first_lack (has_map calls) (has_group calls) (has_fold calls) (vertices plan)
+-- the first vertex of a plan whose closure is lacking
+abbrev pub lack_of : Codes → List PlanLine → Option CallsError
+lack_of stored plan = first_lack stored (vertices plan)
 
 -- how many records an epoch may have, where a stream refuses epochs
 abbrev pub limit_of : Bool → ℕ → Option ℕ

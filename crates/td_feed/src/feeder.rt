@@ -79,7 +79,7 @@ impl<
         alloc: Global,
         calls: &C,
     ) -> Served<D, L, W, H>
-        requires fits { first_lack (C.has_map calls.now) (C.has_group calls.now) (C.has_fold calls.now) (vertices self.keeper.plan) ≡ None }
+        requires fits { first_lack (C.stored calls.now) (vertices self.keeper.plan) ≡ None }
         requires collected { self.keeper.collected ≡ self.keeper.base }
         ensures { Serves D.view L.answers W.marks W.contents W.HasRoom H.New.view H.copies H.seen true self.pace (S.overlong self.orders)
             (script_at S.script self.keeper self.orders) result.ended self.keeper result.keeper self.writer result.writer self.host result.host }

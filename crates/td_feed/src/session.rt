@@ -132,14 +132,14 @@ impl<'a, L: Law + Send + Sync, C: Closures<L> + Sync, R: Threads + Wait + Sync> 
         ensures disk { KeepsDisk D.view result.ended disk result.disk }
 
         // A missing closure comes first: nothing was read or written.
-        ensures lack { IfSome (lack_of C.has_map C.has_group C.has_fold self.now.calls.now self.now.plan.now) (λ lack.
+        ensures lack { IfSome (lack_of (C.stored self.now.calls.now) self.now.plan.now) (λ lack.
             (result.ended ≡ Err (lack_fault lack)) × (result.disk ≡ disk) × (reader.new ≡ reader.old) × (result.writer ≡ writer)) }
-        ensures fits { OnOk result.ended (lack_of C.has_map C.has_group C.has_fold self.now.calls.now self.now.plan.now ≡ None) }
+        ensures fits { OnOk result.ended (lack_of (C.stored self.now.calls.now) self.now.plan.now ≡ None) }
 
         // A line's fault is the input's first, with nothing written; a writer with room does not fail. After Ok the disk has what it had and each
         // epoch of the input that is new to it, at a refusal a beginning of them; and so at each moment, whatever a crash leaves.
         ensures fault { IfSome (I.remaining reader.old) (λ input. RefusesFor W.HasRoom self.now.plan.now input result.ended writer result.writer) }
-        ensures fed { lack_of C.has_map C.has_group C.has_fold self.now.calls.now self.now.plan.now ≡ None → IfSome (I.remaining reader.old) (λ input.
+        ensures fed { lack_of (C.stored self.now.calls.now) self.now.plan.now ≡ None → IfSome (I.remaining reader.old) (λ input.
             FeedsDisk D.view L.answers W.marks result.ended self.now.plan.now false disk result.disk (W.contents writer) (W.contents result.writer) (epochs_alone (submitted_by (orders_of self.now.plan.now input)))) }
     {
         laws::told_in_parts();
@@ -207,15 +207,15 @@ impl<'a, L: Law + Send + Sync, C: Closures<L> + Sync, R: Threads + Wait + Sync> 
         ensures disk { KeepsDisk D.view result.ended disk result.disk }
 
         // A missing closure comes first: nothing was written.
-        ensures lack { IfSome (lack_of C.has_map C.has_group C.has_fold self.now.calls.now self.now.plan.now) (λ lack. (result.ended ≡ Err (lack_fault lack)) × (result.disk ≡ disk) × (result.writer ≡ writer) × (result.host ≡ host) × (result.watch ≡ watch)) }
+        ensures lack { IfSome (lack_of (C.stored self.now.calls.now) self.now.plan.now) (λ lack. (result.ended ≡ Err (lack_fault lack)) × (result.disk ≡ disk) × (result.writer ≡ writer) × (result.host ≡ host) × (result.watch ≡ watch)) }
 
         // A line's fault is the input's, and a writer with room does not fail.
         ensures fault { IfSome (I.remaining reader) (λ input. IsRefusedFor D.view L.answers W.HasRoom options result.ended self.now.plan.now disk input) }
 
         // After Ok the disk has what it had and each epoch of the input that is new to it, at a refusal a beginning of them; and so at each moment, whatever
         // a crash leaves. By one worker all outputs went out. The host is told what was seen, and the watch how far the disk has come.
-        ensures fed { lack_of C.has_map C.has_group C.has_fold self.now.calls.now self.now.plan.now ≡ None → IfSome (I.remaining reader) (λ input. StreamsCopying D.view L.answers W.marks H.New.view options result.ended self.now.plan.now (self.now.workers == 1) disk result.disk (W.contents writer) (W.contents result.writer) (H.copies host) (H.copies result.host) input) }
-        ensures told { lack_of C.has_map C.has_group C.has_fold self.now.calls.now self.now.plan.now ≡ None → IfSome (I.remaining reader) (λ input. TellsAround D.view options result.ended self.now.plan.now disk result.disk (H.seen host) (H.seen result.host) watch result.watch input) }
+        ensures fed { lack_of (C.stored self.now.calls.now) self.now.plan.now ≡ None → IfSome (I.remaining reader) (λ input. StreamsCopying D.view L.answers W.marks H.New.view options result.ended self.now.plan.now (self.now.workers == 1) disk result.disk (W.contents writer) (W.contents result.writer) (H.copies host) (H.copies result.host) input) }
+        ensures told { lack_of (C.stored self.now.calls.now) self.now.plan.now ≡ None → IfSome (I.remaining reader) (λ input. TellsAround D.view options result.ended self.now.plan.now disk result.disk (H.seen host) (H.seen result.host) watch result.watch input) }
     {
         laws::told_in_parts();
         laws::advance_stands::<L>();
@@ -303,7 +303,7 @@ impl<'a, L: Law + Send + Sync, C: Closures<L> + Sync, R: Threads + Wait + Sync> 
         host: H,
     ) -> Served<D, L, W, H>
         requires whole { keeper.broken ≡ false }
-        requires fits { first_lack (C.has_map self.now.calls.now) (C.has_group self.now.calls.now) (C.has_fold self.now.calls.now) (vertices keeper.plan) ≡ None }
+        requires fits { first_lack (C.stored self.now.calls.now) (vertices keeper.plan) ≡ None }
         requires collected { keeper.collected ≡ keeper.base }
         ensures { Serves D.view L.answers W.marks W.contents W.HasRoom H.New.view H.copies H.seen (self.now.workers == 1) (pace_of options) (has_overlong (I.remaining reader))
             (option_map (asked_at options self.now.plan.now keeper) (I.remaining reader)) result.ended keeper result.keeper writer result.writer host result.host }

@@ -5,4 +5,5 @@ pub mod Meaning
 pub mod Names
 pub mod ProvedWritten
 pub mod Room
+pub mod Stored
 pub mod Written

@@ -1,9 +1,9 @@
 //! Closures that are written as formulas beside others: those have the codes below 10,000, these the codes from there on.
-ghost use Rattle.std.specs.Prelude.{◌≡◌, nat_lt, is_some, if◌then◌else◌};
-ghost use Rattle.td_formula.specs.declared.closure.ClosureKind.{ClosureKind};
+ghost use Rattle.std.specs.Prelude.{◌≡◌};
 ghost use Rattle.td_formula.specs.Beside.{beside, beside_few};
 ghost use Rattle.td_formula.specs.ProvedWritten.{few_of};
-ghost use Rattle.td_formula.specs.Written.{closure_at, answers_of};
+ghost use Rattle.td_formula.specs.Stored.{codes_beside, codes_of};
+ghost use Rattle.td_formula.specs.Written.{answers_of};
 
 use crate::written::{Formulas, Written, WrittenCalls};
 use std::marker::PhantomData;
@@ -31,11 +31,7 @@ pub struct BesideCalls<C, F: Formulas> {
 }
 
 impl<L: Law, C: Closures<L>, F: Formulas> Closures<Beside<L, F>> for BesideCalls<C, F> {
-    ghost has_map = { λ calls code. if nat_lt code 10000 then C.has_map calls.below code else is_some (closure_at ClosureKind.Map F.closures code) };
-
-    ghost has_group = { λ calls code. if nat_lt code 10000 then C.has_group calls.below code else is_some (closure_at ClosureKind.Group F.closures code) };
-
-    ghost has_fold = { λ calls code. if nat_lt code 10000 then C.has_fold calls.below code else is_some (closure_at ClosureKind.Fold F.closures code) };
+    ghost stored = { λ calls. codes_beside (C.stored calls.below) (codes_of F.closures) };
 
     fn map(&self, code: u16, port: u8, rec: Rec) -> Option<Few> {
         if code < 10_000 {

@@ -3,6 +3,7 @@ ghost use Rattle.std.specs.Prelude.{◌≡◌, List, [], is_some};
 ghost use Rattle.std.specs.Option.{option_copied};
 ghost use Rattle.td_formula.specs.declared.closure.Closure.{Closure};
 ghost use Rattle.td_formula.specs.declared.closure.ClosureKind.{ClosureKind};
+ghost use Rattle.td_formula.specs.Stored.{codes_of};
 ghost use Rattle.td_formula.specs.Written.{is_kind, is_at, closure_at, answers_of};
 ghost use Rattle.td_formula.specs.ProvedWritten.{few_of};
 
@@ -82,11 +83,7 @@ impl<F: Formulas> WrittenCalls<F> {
 }
 
 impl<F: Formulas> Closures<Written<F>> for WrittenCalls<F> {
-    ghost has_map = { λ calls code. is_some (closure_at ClosureKind.Map F.closures code) };
-
-    ghost has_group = { λ calls code. is_some (closure_at ClosureKind.Group F.closures code) };
-
-    ghost has_fold = { λ calls code. is_some (closure_at ClosureKind.Fold F.closures code) };
+    ghost stored = { λ calls. codes_of F.closures };
 
     fn map(&self, code: u16, port: u8, rec: Rec) -> Option<Few> {
         let closure = closure_at(ClosureKind::Map, &self.closures, code)?;

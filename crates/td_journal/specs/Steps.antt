@@ -9,20 +9,21 @@ use Rattle.td_journal.specs.declared.journal.Journal.{Journal}
 use Rattle.td_journal.specs.declared.payload.Submitted.{Submitted}
 use Rattle.td_journal.specs.declared.error.JournalError.{JournalError}
 use Rattle.td_journal.specs.declared.error.JournalError.TheVariants.{Full, TooManyRecords, Device}
-use Rattle.td_journal.specs.Cell.{cell_of, cell_bytes, is_batch}
+use Rattle.td_journal.specs.Cell.{cell_of, cell_bytes, is_batch, ring_len}
 use Rattle.td_journal.specs.Images.{Clears, IsGone}
 use Rattle.td_journal.specs.Parsed.{AreKept, Told, Refused}
 use Rattle.td_journal.specs.Refusals.{IsFailureOr, IsAppendRefusal}
 use Rattle.td_journal.specs.Ring.{told_after}
 
--- A RING has a cell, and a cell holds at most 65,536 records.
-pub record IsRing (j : Journal) : Type 0 where
+-- A RING LIES IN so many bytes: it has a cell, a cell holds at most 65,536 records, and its cells end there.
+pub record HasRing (j : Journal) (capacity : ℕ) : Type 0 where
   pub cells : 0 < j.n
   pub records : j.m ≤ 65536
+  pub room : j.at + ring_len j.m j.n ≤ capacity
 
--- A RING MAY BE READ from a checkpoint on: it has at most 65,536 cells, and the checkpoint's epoch is below 2 ^ 63.
-pub record MayReadFrom (j : Journal) (checkpoint : ℕ) : Type 0 where
-  pub ring : IsRing j
+-- IT MAY BE READ from a checkpoint on: it has at most 65,536 cells, and the checkpoint's epoch is below 2 ^ 63.
+pub record MayReadFrom (j : Journal) (capacity checkpoint : ℕ) : Type 0 where
+  pub ring : HasRing j capacity
   pub few : j.n ≤ 65536
   pub small : checkpoint < 2 ^ 63
 

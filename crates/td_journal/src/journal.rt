@@ -10,8 +10,8 @@ ghost use Rattle.td_journal.specs.Counts.{counts_of};
 ghost use Rattle.td_journal.specs.Ring.{found};
 ghost use Rattle.td_journal.specs.Parsed.{IsKept, IsDamage, Told};
 ghost use Rattle.td_journal.specs.Refusals.{IsFailureOr, IsMemory, IsMemoryOrDevice};
-ghost use Rattle.td_journal.specs.Steps.{IsRing, MayReadFrom, FitsRing, MayBeTold, RingTells, RingRefuses, IsKeptOfRing};
-ghost use Rattle.td_journal.specs.Steps.{ClearsSafely, LeavesGone, PutsEpoch, RefusesAppend};
+ghost use Rattle.td_journal.specs.Steps.{HasRing, MayReadFrom, FitsRing, MayBeTold, RingTells, RingRefuses, IsKeptOfRing};
+ghost use Rattle.td_journal.specs.Steps.{HasRing, ClearsSafely, LeavesGone, PutsEpoch, RefusesAppend};
 
 use crate::error::JournalError;
 use crate::keeping::{Counting, Keeping};
@@ -43,8 +43,7 @@ impl Journal {
 
     /// The cell of an epoch.
     pub fn cell_of(&self, epoch: u64) -> Region
-        requires ring { IsRing self.now }
-        requires room { self.now.at + ring_len self.now.m self.now.n < 2 ^ 64 }
+        requires { HasRing self.now (2 ^ 64) }
         ensures region { result ≡ cell_of self.now epoch }
         ensures within { result.at + result.len + 1 ≤ self.now.at + ring_len self.now.m self.now.n }
     {
@@ -86,8 +85,7 @@ impl Journal {
         device: &mut D,
         epoch: u64,
     ) -> Result<(), JournalError>
-        requires ring { IsRing self.now }
-        requires room { self.now.at + ring_len self.now.m self.now.n ≤ (D.view device.old).capacity }
+        requires ring { HasRing self.now (D.view device.old).capacity }
         ensures refusals { IfErr result IsMemoryOrDevice }
         ensures device { KeepsDevice D.view JournalError.Device result device.old device.new }
         ensures crash_safe { ClearsSafely D.view self.now epoch device.old device.new }
@@ -123,8 +121,7 @@ impl Journal {
         epoch: u64,
         bytes: &mut [u8],
     ) -> Result<Option<K::Kept>, JournalError>
-        requires ring { IsRing self.now }
-        requires room { self.now.at + ring_len self.now.m self.now.n ≤ (D.view device.old).capacity }
+        requires ring { HasRing self.now (D.view device.old).capacity }
         requires len { length bytes.old ≡ cell_len self.now.m + 1 }
         ensures found { IfOk result (λ kept. IsKept K.kept_of inputs.now
             (λ f. (D.view device.old).lawful → found inputs.now self.now (D.view device.old).state.bytes floor epoch ≡ f) kept) }
@@ -164,8 +161,7 @@ impl Journal {
         checkpoint: u64,
         floor: Option<u64>,
     ) -> Result<Vec<K::Kept>, JournalError>
-        requires ring { MayReadFrom self.now checkpoint }
-        requires room { self.now.at + ring_len self.now.m self.now.n ≤ (D.view device.old).capacity }
+        requires ring { MayReadFrom self.now (D.view device.old).capacity checkpoint }
         ensures told { IfOk result (λ kept. IsKeptOfRing D.view K.kept_of inputs.now self.now floor checkpoint kept.items device.old) }
         ensures fits { IfOk result (λ kept. FitsRing self.now checkpoint (length kept.items)) }
         ensures refused { IfErr result (λ e. RingRefuses D.view inputs.now self.now floor checkpoint e device.old) }
@@ -206,8 +202,7 @@ impl Journal {
         checkpoint: u64,
         floor: Option<u64>,
     ) -> Result<Vec<Submitted>, JournalError>
-        requires ring { MayReadFrom self.now checkpoint }
-        requires room { self.now.at + ring_len self.now.m self.now.n ≤ (D.view device.old).capacity }
+        requires ring { MayReadFrom self.now (D.view device.old).capacity checkpoint }
         ensures told { IfOk result (λ w. RingTells D.view inputs.now self.now floor checkpoint (Told w.items) device.old) }
         ensures may_be { IfOk result (λ w. MayBeTold inputs.now self.now checkpoint w.items) }
         ensures refused { IfErr result (λ e. RingRefuses D.view inputs.now self.now floor checkpoint e device.old) }
@@ -227,8 +222,7 @@ impl Journal {
         checkpoint: u64,
         floor: Option<u64>,
     ) -> Result<Vec<Counts>, JournalError>
-        requires ring { MayReadFrom self.now checkpoint }
-        requires room { self.now.at + ring_len self.now.m self.now.n ≤ (D.view device.old).capacity }
+        requires ring { MayReadFrom self.now (D.view device.old).capacity checkpoint }
         ensures told { IfOk result (λ w. IsKeptOfRing D.view counts_of inputs.now self.now floor checkpoint w.items device.old) }
         ensures fits { IfOk result (λ w. FitsRing self.now checkpoint (length w.items)) }
         ensures refused { IfErr result (λ e. RingRefuses D.view inputs.now self.now floor checkpoint e device.old) }
@@ -263,8 +257,7 @@ impl Journal {
         request: u64,
         batch: &Batch,
     ) -> Result<(), JournalError>
-        requires ring { IsRing self.now }
-        requires room { self.now.at + ring_len self.now.m self.now.n ≤ (D.view device.old).capacity }
+        requires ring { HasRing self.now (D.view device.old).capacity }
         requires later { self.now.kept < epoch }
         ensures refused { RefusesAppend self.now epoch batch.now result device.old device.new }
         ensures device { KeepsDevice D.view JournalError.Device result device.old device.new }

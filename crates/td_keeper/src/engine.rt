@@ -54,7 +54,7 @@ impl<'a, D: Disk, L: Law, C: Closures<L>> Model for Engine<'a, D, L, C> {
     ghost view = { λ e. record { keeping = e.keeper; hall = e.hall } };
 
     ghost invariant = { λ e. IsAtHome e.keeper e.hall
-        × (first_lack (C.has_map e.calls.now) (C.has_group e.calls.now) (C.has_fold e.calls.now) (vertices e.keeper.plan) ≡ None) };
+        × (first_lack (C.stored e.calls.now) (vertices e.keeper.plan) ≡ None) };
 }
 
 impl<'a, D: Disk, L: Law, C: Closures<L>> Engine<'a, D, L, C> {
@@ -66,7 +66,7 @@ impl<'a, D: Disk, L: Law, C: Closures<L>> Engine<'a, D, L, C> {
         calls: &'a C,
         tasks_of_an_epoch: u64,
     ) -> Result<Engine<'a, D, L, C>, (KeeperError, Keeper<D, L>)>
-        requires fits { first_lack (C.has_map calls.now) (C.has_group calls.now) (C.has_fold calls.now) (vertices keeper.plan) ≡ None }
+        requires fits { first_lack (C.stored calls.now) (vertices keeper.plan) ≡ None }
         requires collected { keeper.collected ≡ keeper.base }
         ensures same { IfOk result (λ engine. engine.keeping ≡ keeper) }
         ensures opened { IfOk result (λ engine. engine.hall ≡ opened keeper.plan keeper.base_states (keeper.base + 1) 1) }

@@ -1,9 +1,9 @@
 -- A plan as a picture, in the language of Graphviz.
 use Rattle.std.specs.Prelude.{ℕ, ◌+◌, ◌==◌, nat_lt, if◌then◌else◌, List, [], ◌∷◌, ◌++◌, length, flat_map, codes, decimal}
-use Rattle.std.specs.List.{join_with_byte, enumerate_from}
+use Rattle.std.specs.List.{enumerate_from}
 use Rattle.td_plan.specs.declared.vertex.Kind.{Kind}
 use Rattle.td_plan.specs.declared.vertex.Kind.TheVariants.{Input, Map, Distinct, Group, Fold, Enter, Feedback, Leave, Output}
-use Rattle.td_plan.specs.Lines.{Vertex, Line, words_of_kind}
+use Rattle.td_plan.specs.Lines.{Vertex, Line, name_of}
 use Rattle.td_plan.specs.Lines.Line.{vertex, loop, end}
 use Rattle.td_plan.specs.Blocks.{vertices}
 use Rattle.td_plan.specs.Faults.{is_feedback}
@@ -20,10 +20,6 @@ look_of Enter = codes "shape=circle, fontsize=10"
 look_of Feedback = codes "shape=circle, fontsize=10"
 look_of Leave = codes "shape=circle, fontsize=10"
 look_of Output = codes "shape=ellipse"
-
--- `N KIND CODE`
-abbrev pub name_of : Vertex → Text
-name_of v = join_with_byte 32 (decimal v.number ∷ words_of_kind v.kind)
 
 -- the node of a vertex: `vN [LOOK, label="N KIND CODE\nWORDS"];`
 abbrev pub node_of : Vertex → Text

@@ -13,7 +13,6 @@ mod drawing;
 mod edges;
 pub mod laws;
 mod listing;
-mod names;
 mod nodes;
 mod table;
 mod words;

@@ -1,16 +1,15 @@
 //! The lines of a plan, with what each closure is in words.
-ghost use Rattle.std.specs.Prelude.{◌≡◌, ◌++◌, ◌∷◌, [], IfOk, OnOk, IfErr, string_bytes, flat_map, map, decimal};
+ghost use Rattle.std.specs.Prelude.{◌≡◌, ◌++◌, IfOk, OnOk, IfErr, string_bytes};
 ghost use Rattle.td_plan.specs.Lines.Line.{vertex as vertex_line};
 ghost use Rattle.td_plan.specs.Texts.{PlanText};
 ghost use Rattle.td_picture.specs.Listed.{listing_of, listed_line};
 ghost use Rattle.td_picture.specs.Printed.{IsListed};
 
 use crate::laws;
-use crate::names::print_name;
 use crate::words::print_between;
 use std::alloc::Global;
 use std::fmt::Write;
-use td_plan::{Mark, Plan, PlanError, Vertex};
+use td_plan::{Mark, Plan, PlanError, Vertex, print_vertex};
 
 /// The canonical text of a plan, with a comment before the line of each map, group and fold, which tells in words what its closure
 /// is, or that the catalogue has none of its code. Refusal: `Memory`.
@@ -42,7 +41,7 @@ fn print_line<'a>(
     match mark {
         Mark::Vertex => {
             if let Some((vertex, left)) = vertices.split_first() {
-                print_vertex(text, vertex)?;
+                list_vertex(text, vertex)?;
                 return Ok(left);
             }
         }
@@ -52,25 +51,12 @@ fn print_line<'a>(
     Ok(vertices)
 }
 
-/// Appends the line of a vertex, with its comment. Refusal: `Memory`.
-fn print_vertex(text: &mut String, vertex: &Vertex) -> Result<(), PlanError>
+/// Appends the line of a vertex, behind its comment. Refusal: `Memory`.
+fn list_vertex(text: &mut String, vertex: &Vertex) -> Result<(), PlanError>
     ensures ok { OnOk result (string_bytes text.new ≡ string_bytes text.old ++ listed_line (vertex_line vertex.now.vertex)) }
     ensures err { IfErr result (λ e. e ≡ PlanError.Memory) }
 {
     print_between(text, "# ", "\n", vertex.kind())?;
-    print_name(text, vertex)?;
-    print_sources(text, vertex.sources())?;
-    text.push('\n')?;
-    Ok(())
-}
-
-/// Appends the numbers of sources, each after a space. Refusal: `Memory`.
-fn print_sources(text: &mut String, sources: &[u8]) -> Result<(), PlanError>
-    ensures ok { OnOk result (string_bytes text.new ≡ string_bytes text.old ++ flat_map (λ word. 32 ∷ word) (map decimal sources.now)) }
-    ensures err { IfErr result (λ e. e ≡ PlanError.Memory) }
-{
-    for source in sources {
-        write!(text, " {source}")?;
-    }
+    print_vertex(text, vertex)?;
     Ok(())
 }

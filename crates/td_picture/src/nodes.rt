@@ -3,10 +3,9 @@ ghost use Rattle.std.specs.Prelude.{◌≡◌, ◌≤◌, ◌+◌, ◌<◌, ◌^
 ghost use Rattle.td_picture.specs.Drawn.{head_of, look_of, node_of, turns_of};
 ghost use Rattle.td_picture.specs.Printed.{IsDrawn, next_number};
 
-use crate::names::print_name;
 use crate::words::print_between;
 use std::fmt::Write;
-use td_plan::{Kind, Mark, PlanError, Vertex};
+use td_plan::{Kind, Mark, PlanError, Vertex, print_name};
 
 /// Appends the node of a vertex, the head of a loop of this number, or the end of one, and answers the vertices that are left after
 /// it. Refusal: `Memory`.

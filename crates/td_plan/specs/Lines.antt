@@ -37,6 +37,10 @@ words_of (vertex v) = decimal v.number ∷ words_of_kind v.kind ++ map decimal v
 words_of (loop bound) = codes "loop" ∷ decimal bound ∷ []
 words_of end = codes "end" ∷ []
 
+-- `N KIND CODE`: what a vertex is called
+abbrev pub name_of : Vertex → List ℕ
+name_of v = join_with_byte 32 (decimal v.number ∷ words_of_kind v.kind)
+
 -- how many sources the form of a kind has: none, one, one or more, or any number
 abbrev pub has_arity : Kind → ℕ → Bool
 has_arity Input n = n == 0

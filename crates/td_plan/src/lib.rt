@@ -25,4 +25,5 @@ pub use error::PlanError;
 pub use extents::Block;
 pub use mark::Mark;
 pub use plan::Plan;
+pub use printer::{print_name, print_vertex};
 pub use vertex::{EDGES, Edge, Kind, LEVELS, Loop, MOST_TURNS, SOURCES, VERTICES, Vertex};

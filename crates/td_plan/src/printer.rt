@@ -1,6 +1,6 @@
 //! The canonical text of a plan.
 ghost use Rattle.std.specs.Prelude.{◌≡◌, ◌++◌, ◌∷◌, [], IfOk, OnOk, IfErr, string_bytes, map, decimal};
-ghost use Rattle.td_plan.specs.Lines.{text_of, text_of_line, words_of_kind};
+ghost use Rattle.td_plan.specs.Lines.{name_of, text_of, text_of_line, words_of_kind};
 ghost use Rattle.td_plan.specs.Lines.Line.{vertex as vertex_line};
 ghost use Rattle.td_plan.specs.Marks.{lines_of_marks};
 ghost use Rattle.td_plan.specs.Steps.Printed.{spaced, IsPrinted};
@@ -47,15 +47,24 @@ fn print_line<'a>(
 }
 
 /// Appends the line of a vertex. Refusal: `Memory`.
-fn print_vertex(text: &mut String, placed: &Vertex) -> Result<(), PlanError>
+pub fn print_vertex(text: &mut String, placed: &Vertex) -> Result<(), PlanError>
     ensures ok { OnOk result (string_bytes text.new ≡ string_bytes text.old ++ text_of_line (vertex_line placed.now.vertex)) }
+    ensures err { IfErr result (λ e. e ≡ PlanError.Memory) }
+{
+    print_name(text, placed)?;
+    print_sources(text, placed.sources())?;
+    text.push('\n')?;
+    Ok(())
+}
+
+/// Appends the number of a vertex and the words of its kind, with a space between. Refusal: `Memory`.
+pub fn print_name(text: &mut String, placed: &Vertex) -> Result<(), PlanError>
+    ensures ok { OnOk result (string_bytes text.new ≡ string_bytes text.old ++ name_of placed.now.vertex) }
     ensures err { IfErr result (λ e. e ≡ PlanError.Memory) }
 {
     let number = placed.number();
     write!(text, "{number}")?;
     print_kind(text, placed.kind())?;
-    print_sources(text, placed.sources())?;
-    text.push('\n')?;
     Ok(())
 }
 

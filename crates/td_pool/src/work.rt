@@ -41,7 +41,7 @@ impl<K: Crew, L: Law> Pool<K, L> {
         ensures ok { OnOk result (is_empty seat.new.hand ≡ true) }
         ensures strays { OnOk result (seat.new.strays ≡ seat.old.strays) }
         ensures lost { IfErr result (λ e. Strays e seat.old.strays seat.new.strays) }
-        ensures stays { let lacks = lacking_code (C.has_map calls.now) (C.has_group calls.now) (C.has_fold calls.now) in IfErr result (λ e. Stays lacks e seat.new.hand) }
+        ensures stays { let lacks = lacking_code (C.stored calls.now) in IfErr result (λ e. Stays lacks e seat.new.hand) }
         ensures kept { (held : AnyTask) → task_of seat.old.hand ≡ Some held
             → (padded_value seat.old.gives < padded_value seat.new.gives) ⊎ (IsErrAnd result (λ e. e ≡ OfHall Stranger) ⊎ (task_of seat.new.hand ≡ Some held)) }
     {
@@ -118,7 +118,7 @@ impl<K: Crew, L: Law> Pool<K, L> {
         ensures same { OnErr result (padded_value seat.new.gives ≡ padded_value seat.old.gives) }
         ensures strays { OnOk result (seat.new.strays ≡ seat.old.strays) }
         ensures lost { IfErr result (λ e. Strays e seat.old.strays seat.new.strays) }
-        ensures stays { let lacks = lacking_code (C.has_map calls.now) (C.has_group calls.now) (C.has_fold calls.now) in IfErr result (λ e. Stays lacks e seat.new.hand) }
+        ensures stays { let lacks = lacking_code (C.stored calls.now) in IfErr result (λ e. Stays lacks e seat.new.hand) }
         ensures kept { IfErr result (λ e. (e ≡ OfHall Stranger) ⊎ (task_of seat.new.hand ≡ task_of seat.old.hand)) }
     {
         run(alloc, &mut seat.hand, calls)?;
@@ -162,7 +162,7 @@ fn run<L: Law, C: Closures<L>>(
     ensures task { task_of hand.new ≡ task_of hand.old }
     ensures held { is_empty hand.new ≡ false }
     ensures ready { OnOk result (is_ready hand.new ≡ true) }
-    ensures stays { let lacks = lacking_code (C.has_map calls.now) (C.has_group calls.now) (C.has_fold calls.now) in IfErr result (λ e. Stays lacks e hand.new × (held_in hand.new ≡ 1)) }
+    ensures stays { let lacks = lacking_code (C.stored calls.now) in IfErr result (λ e. Stays lacks e hand.new × (held_in hand.new ≡ 1)) }
 {
     let (ran, left) = match mem::replace(hand, Hand::Empty) {
         Hand::Taken(task) => match task.run::<L, C>(alloc, calls) {

@@ -9,12 +9,11 @@
 #![tactic(auto)]
 
 mod chain;
-mod error;
 mod held;
 pub mod laws;
 mod table;
 mod ways;
 
 pub use chain::FrontierStamps;
-pub use error::ProgressError;
 pub use table::Table;
+pub use td_stamp::StampError as ProgressError;

@@ -8,7 +8,6 @@ ghost use Rattle.td_reach.specs.Frontier.{Frontier, Precursors, has_passed};
 ghost use Rattle.td_progress.specs.Bag.{is_stamp, occurrences, IsSameBag, input_stamp};
 
 use crate::chain::FrontierStamps;
-use crate::error::ProgressError;
 use crate::held::Held;
 use crate::ways::Ways;
 use std::alloc::Global;
@@ -16,7 +15,7 @@ use std::marker::Model;
 use td_plan::Plan;
 use td_reach::laws::{could_order, could_tested};
 use td_reach::{Place, Reach, Stamp};
-use td_stamp::Time;
+use td_stamp::{StampError as ProgressError, Time};
 
 /// The active pointstamps of a plan, with how often each occurs and how many precursors each has (Naiad, section 2.3).
 /// Contracts see the plan, and a list in which each stands as often as it occurs.

@@ -4,12 +4,11 @@ ghost use Rattle.std.specs.Bool.{OnTrue, OnFalse};
 ghost use Rattle.td_questions.specs.Asked.{answer_to, at_most, at_percentile, kept_from, place_of};
 ghost use Rattle.td_questions.specs.declared.question.Wanted.TheVariants.{Get};
 
-use crate::error::QuestionError;
 use crate::question::Wanted;
 use crate::ranks::{Order, first_entries};
 use std::alloc::Global;
 use td_shard::{StatesAfter, StatesInOrder};
-use td_stamp::State;
+use td_stamp::{StampError as QuestionError, State};
 
 /// A state at its vertex and key.
 pub type Entry = ((u8, u64), State);

@@ -12,13 +12,12 @@
 
 mod answers;
 mod entries;
-mod error;
 mod lines;
 mod question;
 mod ranks;
 
 pub use answers::{Entry, answer};
 pub use entries::Entries;
-pub use error::QuestionError;
 pub use lines::print_answer;
 pub use question::{Question, Wanted, fold_of, read_question};
+pub use td_stamp::StampError as QuestionError;

@@ -3,10 +3,9 @@ ghost use Rattle.std.specs.Prelude.{◌≡◌, ◌++◌, flat_map, string_bytes,
 ghost use Rattle.td_questions.specs.Lines.{state_line, none_line, lines_of, answer_lines};
 
 use crate::answers::Entry;
-use crate::error::QuestionError;
 use crate::question::Wanted;
 use std::fmt::Write;
-use td_stamp::State;
+use td_stamp::{StampError as QuestionError, State};
 
 /// Appends the lines of an answer at an epoch: `state E V KEY A B` for each of its entries; `none E V KEY` for a key that has no state;
 /// and `asked E`. Refusal: `Memory`.

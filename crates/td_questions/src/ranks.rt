@@ -11,11 +11,10 @@ ghost use Rattle.td_questions.specs.Ranks.{order_of, ranked_cmp};
 ghost use Rattle.td_questions.specs.Weighed.{weight_of, ranked, entry_of, IsFew};
 
 use crate::answers::Entry;
-use crate::error::QuestionError;
 use std::alloc::Global;
 use std::collections::BTreeSet;
 use td_shard::StatesAfter;
-use td_stamp::State;
+use td_stamp::{StampError as QuestionError, State};
 
 /// An order of entries: of one a from the least key on.
 #[derive(Clone, Copy, Debug, PartialEq, Eq)]

@@ -6,7 +6,6 @@ ghost use Rattle.td_reach.specs.Paths.{HasPlace, IsOf, Leads, Could};
 ghost use Rattle.td_reach.specs.Tables.{least_effect, first_vertex, last_vertex, effect_to, is_same_edge, could_test};
 ghost use Rattle.td_reach.specs.Tables.{leads_test, reading_depth, is_of_test};
 
-use crate::error::ReachError;
 use crate::laws::could_tested;
 use crate::stamp::{Place, Stamp};
 use crate::summary::Summary;
@@ -14,6 +13,7 @@ use crate::table::{closed_table, entry_at, over, through};
 use std::alloc::Global;
 use std::marker::Model;
 use td_plan::Plan;
+use td_stamp::StampError as ReachError;
 
 /// A plan, with the first effect of the paths from each of its vertices to each. Contracts see the plan.
 #[derive(Drop)]

@@ -2,7 +2,7 @@
 //! and `read_plan`, which reads a plan from a file of its own.
 //!
 //! None of it needs a keeper, hence no law and no closures: a disk is read, and nothing is written to it. What was dumped is fed: that is
-//! a law over `td_orders`, which reads the lines again.
+//! a law over `td_orders`, which reads the lines again. For example an epoch of one record is dumped as its line and a `.`.
 #![tactic(auto)]
 
 mod dumping;

@@ -12,11 +12,10 @@ ghost use Rattle.td_stamp.specs.Orders.{state_key_cmp};
 ghost use Rattle.td_stamp.specs.States.{state_of, AreStates};
 ghost use Rattle.td_shard.specs.After.{states_after};
 
-use crate::error::ShardError;
 use crate::versions::{LatestOfEach, Versions};
 use std::cmp::Ordering;
 use std::marker::Model;
-use td_stamp::{State, States, StatesIterator, UnorderedStates};
+use td_stamp::{StampError as ShardError, State, States, StatesIterator, UnorderedStates};
 
 /// The states after an epoch: those of a base, and then what folds left up to the epoch. Contracts see them as their list.
 #[derive(Drop)]

@@ -7,7 +7,6 @@
 #![tactic(auto)]
 
 mod after;
-mod error;
 pub mod laws;
 mod mailbox;
 mod outlet;
@@ -20,10 +19,10 @@ mod versions;
 mod waiting;
 
 pub use after::{StatesAfter, StatesAfterIterator, StatesInOrder, UnorderedAfter};
-pub use error::ShardError;
 pub use mailbox::{Mailbox, Taken};
 pub use outlet::Outlet;
 pub use seen::Seen;
 pub use shard::Shard;
+pub use td_stamp::StampError as ShardError;
 pub use versions::Versions;
 pub use waiting::{Noted, Waiting};

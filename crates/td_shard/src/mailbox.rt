@@ -7,7 +7,6 @@ ghost use Rattle.std.specs.HashMap.{get, spare};
 ghost use Rattle.td_shard.specs.Runs.{lane_eq, last_on, AreLinked, AreAppended, AreUpTo, on_lane, numbered, to_each};
 ghost use Rattle.td_shard.specs.declared.runs.Lane.{Lane as AnyLane};
 
-use crate::error::ShardError;
 use crate::outlet::Outlet;
 use crate::runs::{Lane, Runs};
 use crate::take::{let_go, read_task, take_task};
@@ -15,7 +14,7 @@ use std::alloc::Global;
 use std::collections::HashMap;
 use std::marker::Model;
 use td_machine::TASK_SIZE;
-use td_stamp::{Rec, Time};
+use td_stamp::{Rec, StampError as ShardError, Time};
 
 /// The messages of a task: records that come to a port of a vertex, all at one time.
 #[derive(Debug, Drop)]

@@ -10,13 +10,15 @@ ghost use Rattle.std.specs.List.{HoldsAt, remove};
 ghost use Rattle.std.specs.VecDeque.{deque_len, deque_capacity};
 ghost use Rattle.td_shard.specs.Runs.{InOrder, BeginsAt, begin_of, taken_of, part, changed_at, extended, linked_to, pushed, rec_of, with_first, without_front, lane_to, numbered};
 
-use crate::error::ShardError;
 use crate::outlet::Outlet;
 use std::alloc::Global;
 use std::collections::VecDeque;
 use std::marker::Model;
 use td_machine::TASK_SIZE;
-use td_stamp::{Rec, Time};
+use td_stamp::{Rec, StampError as ShardError, Time};
+
+/// For how many records memory is kept where none waits, at least: 1.5 MiB.
+const MANY: usize = 65_536;
 
 /// Records that were posted together on one lane. Their places in the list of all are numbered.
 #[derive(Debug, Drop)]
@@ -240,12 +242,17 @@ impl Runs {
         trim(&self.runs, &mut self.start, &mut self.recs);
     }
 
-    /// Numbers the runs from 0 on, where there is none.
+    /// Numbers the runs from 0 on, where there is none. The memory of a large epoch goes back to the allocator, but for what the room
+    /// takes.
     pub fn number_anew(&mut self)
         requires { self.old.parts ≡ [] }
         ensures { self.new ≡ record self.old { first = 0 } }
     {
         self.first = 0;
+        let kept = self.recs.len() + self.room;
+        if kept.max(MANY) <= self.recs.capacity() / 4 {
+            self.recs.shrink_to(kept);
+        }
     }
 
     /// Makes room for `room` more records, in `runs` runs. Refusal: `Memory`, with the runs unchanged.

@@ -8,13 +8,12 @@ ghost use Rattle.td_machine.specs.State.{stamped_cmp};
 ghost use Rattle.td_machine.specs.AtOnce.{fresh, stamped_at};
 ghost use Rattle.td_shard.specs.Seen.{fresh_recs, with_fresh};
 
-use crate::error::ShardError;
 use crate::place::Place;
 use std::alloc::Global;
 use std::collections::{BTreeMap, BTreeSet};
 use std::marker::Model;
 use td_stamp::laws::bags_by_any_order;
-use td_stamp::{Rec, Time};
+use td_stamp::{Rec, StampError as ShardError, Time};
 
 /// The records that distincts have seen, each at a vertex and a time. Contracts see them as a list in order, each once.
 ///

@@ -17,13 +17,12 @@ ghost use Rattle.std.specs.Ordering.{is_eq, is_gt};
 ghost use Rattle.std.specs.declared.cmp.Ordering.TheVariants.{Greater};
 ghost use Rattle.td_stamp.specs.Rises.{Rises};
 
-use crate::error::ShardError;
 use std::alloc::Global;
 use std::cmp::Ordering;
 use std::collections::{HashMap, hash_map};
 use std::marker::Model;
 use td_machine::StateLeft;
-use td_stamp::{State, States};
+use td_stamp::{StampError as ShardError, State, States};
 
 /// What folds left for their keys, above a base. Contracts see it as the core machine has it: in the order of epochs.
 ///

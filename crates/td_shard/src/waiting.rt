@@ -7,13 +7,12 @@ ghost use Rattle.std.specs.Ordering.{as_partial_cmp, eq_by_cmp};
 ghost use Rattle.std.specs.Cmp.{partial_equiv_from_equiv, partial_order_from_total};
 ghost use Rattle.td_shard.specs.ProvedOrders.{noted_total, noted_equiv};
 
-use crate::error::ShardError;
 use std::alloc::Global;
 use std::cmp::Ordering;
 use std::collections::BTreeMap;
 use std::collections::btree_map::Keys;
 use std::marker::Model;
-use td_stamp::{Arrival, Rec, Time};
+use td_stamp::{Arrival, Rec, StampError as ShardError, Time};
 
 /// The items that wait for notifications, and the notifications that are asked for (Naiad, section 2.2: NotifyAt). Contracts
 /// see the notifications in their order, each with its items as they came.

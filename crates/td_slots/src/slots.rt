@@ -58,8 +58,7 @@ impl Slots {
     /// A slot.
     pub(crate) fn slot(&self, side: u8) -> Region
         requires which { side ≤ 1 }
-        requires limit { self.now.k ≤ 1048576 }
-        requires room { self.now.at + 2 * (slot_len self.now.k + 1) < 2 ^ 64 }
+        requires slots { HasSlots self.now (2 ^ 64) }
         ensures region { result ≡ slot self.now side }
         ensures within { result.at + result.len + 1 ≤ self.now.at + 2 * (slot_len self.now.k + 1) }
     {
@@ -113,8 +112,7 @@ impl Slots {
         side: u8,
     ) -> Result<Option<Vec<u8>>, SlotsError>
         requires which { side ≤ 1 }
-        requires limit { self.now.k ≤ 1048576 }
-        requires room { self.now.at + 2 * (slot_len self.now.k + 1) ≤ (D.view device.old).capacity }
+        requires slots { HasSlots self.now (D.view device.old).capacity }
         ensures found { IfOk result (λ p. IsFound D.view (opened (slot self.now side)) (payload_of p) device.old) }
         ensures valid { IfOk result (λ p. IsValid version folds.now self.now.k p) }
         ensures len { IfOk result (λ p. HasLength p (slot_len self.now.k)) }

@@ -2,7 +2,7 @@
 //! raised, cells that no told epoch uses are closed, and a new disk is made to tell what another one tells.
 //!
 //! Nothing here speaks of a hall, a law or closures, so the laws and the wrong bodies of the calls that write are checked without the
-//! engine.
+//! engine. For example a disk that stops while epochs 7, 8 and 9 are put as a group tells the epochs up to 6, or up to 9.
 #![tactic(auto)]
 
 pub mod copy;

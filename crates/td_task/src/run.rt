@@ -78,7 +78,7 @@ pub(crate) fn answer<L: Law, C: Closures<L>>(
     work: &Work,
     answers: &mut Answers,
 )
-    requires stored { lacking_code (C.has_map calls.now) (C.has_group calls.now) (C.has_fold calls.now) kind ≡ None }
+    requires stored { lacking_code (C.stored calls.now) kind ≡ None }
     requires sent { answers.old.sent.lists ≡ [] }
     requires states { answers.old.states.items ≡ [] }
     requires lists { answer_count kind (content_of work.now) ≤ answers.old.sent.more_lists }
@@ -109,7 +109,7 @@ fn run_map<L: Law, C: Closures<L>>(
     recs: &[Rec],
     sent: &mut Lists<Rec>,
 )
-    requires stored { IsTrue (C.has_map calls.now code) }
+    requires stored { IsTrue ((C.stored calls.now).map code) }
     requires none { sent.old.lists ≡ [] }
     requires lists { length recs.now ≤ sent.old.more_lists }
     requires records { length recs.now * 8 ≤ sent.old.more_members }
@@ -130,7 +130,7 @@ fn run_group<L: Law, C: Closures<L>>(
     items: &KeyedItems,
     sent: &mut Lists<Rec>,
 )
-    requires stored { IsTrue (C.has_group calls.now code) }
+    requires stored { IsTrue ((C.stored calls.now).group code) }
     requires none { sent.old.lists ≡ [] }
     requires lists { length items.now ≤ sent.old.more_lists }
     requires records { length items.now * 8 ≤ sent.old.more_members }
@@ -153,7 +153,7 @@ fn run_fold<L: Law, C: Closures<L>>(
     sent: &mut Lists<Rec>,
     states: &mut Vec<Option<State>>,
 )
-    requires stored { IsTrue (C.has_fold calls.now code) }
+    requires stored { IsTrue ((C.stored calls.now).fold code) }
     requires none { sent.old.lists ≡ [] }
     requires no_states { states.old.items ≡ [] }
     requires lists { length items.now ≤ sent.old.more_lists }
@@ -183,8 +183,8 @@ impl Task {
         calls: &C,
     ) -> Result<Done<L>, (TaskError, Task)>
         ensures done { IfOk result (λ done. done ≡ self) }
-        ensures stored { OnOk result (lacking_code (C.has_map calls.now) (C.has_group calls.now) (C.has_fold calls.now) self.kind ≡ None) }
-        ensures refused { IfErr result (λ e. e.0 ≡ refusal self.vertex (lacking_code (C.has_map calls.now) (C.has_group calls.now) (C.has_fold calls.now) self.kind)) }
+        ensures stored { OnOk result (lacking_code (C.stored calls.now) self.kind ≡ None) }
+        ensures refused { IfErr result (λ e. e.0 ≡ refusal self.vertex (lacking_code (C.stored calls.now) self.kind)) }
         ensures back { IfErr result (λ e. e.1 ≡ self) }
     {
         if let Some(code) = calls.lacking_code(self.kind()) {

@@ -28,7 +28,7 @@ struct EndsBy<L, C> {
 }
 
 impl<L: Law, C: Closures<L>> Promise<Result<(), PoolError>> for EndsBy<L, C> {
-    ghost kept_by = { λ by ended. let calls = by.calls.value in IfErr ended (MayRefuse (lacking_code (C.has_map calls) (C.has_group calls) (C.has_fold calls))) };
+    ghost kept_by = { λ by ended. let calls = by.calls.value in IfErr ended (MayRefuse (lacking_code (C.stored calls))) };
 }
 
 /// A thread that works.
@@ -53,7 +53,7 @@ pub fn beside_workers<
     work: W,
 ) -> Result<(W::Answer, Result<(), PoolError>), (PoolError, W)>
     ensures gives { IfOk result (λ ended. W.gives work ended.0) }
-    ensures worked { let lacks = lacking_code (C.has_map calls.now) (C.has_group calls.now) (C.has_fold calls.now) in IfOk result (λ ended. IfErr ended.1 (MayRefuse lacks)) }
+    ensures worked { let lacks = lacking_code (C.stored calls.now) in IfOk result (λ ended. IfErr ended.1 (MayRefuse lacks)) }
     ensures refused { IfErr result (λ e. (e.0 ≡ Memory) × (e.1 ≡ work)) }
 {
     beside_workers_within(rt, alloc, hall, calls, &Allowance::new(u64::MAX), work)
@@ -75,7 +75,7 @@ pub fn beside_workers_within<
     work: W,
 ) -> Result<(W::Answer, Result<(), PoolError>), (PoolError, W)>
     ensures gives { IfOk result (λ ended. W.gives work ended.0) }
-    ensures worked { let lacks = lacking_code (C.has_map calls.now) (C.has_group calls.now) (C.has_fold calls.now) in IfOk result (λ ended. IfErr ended.1 (MayRefuse lacks)) }
+    ensures worked { let lacks = lacking_code (C.stored calls.now) in IfOk result (λ ended. IfErr ended.1 (MayRefuse lacks)) }
     ensures refused { IfErr result (λ e. (e.0 ≡ Memory) × (e.1 ≡ work)) }
 {
     let blank = blank_for(&hall);
@@ -112,7 +112,7 @@ fn in_pool<
     requires parts { (blank.parts ≡ K.parts) × (K.parts ≡ K.shards) }
     requires hall { (hall.workers ≡ K.shards) × (hall.given ≡ K.start) }
     ensures gives { IfOk result (λ ended. W.gives work ended.0) }
-    ensures worked { let lacks = lacking_code (C.has_map calls.now) (C.has_group calls.now) (C.has_fold calls.now) in IfOk result (λ ended. IfErr ended.1 (MayRefuse lacks)) }
+    ensures worked { let lacks = lacking_code (C.stored calls.now) in IfOk result (λ ended. IfErr ended.1 (MayRefuse lacks)) }
     ensures refused { IfErr result (λ e. (e.0 ≡ Memory) × (e.1 ≡ work)) }
 {
     match Pool::<K, L>::new(alloc, hall, blank) {
@@ -141,7 +141,7 @@ fn in_scope<
     work: W,
 ) -> Result<(W::Answer, Result<(), PoolError>), (PoolError, W)>
     ensures gives { IfOk result (λ ended. W.gives work ended.0) }
-    ensures worked { let lacks = lacking_code (C.has_map calls.now) (C.has_group calls.now) (C.has_fold calls.now) in IfOk result (λ ended. IfErr ended.1 (MayRefuse lacks)) }
+    ensures worked { let lacks = lacking_code (C.stored calls.now) in IfOk result (λ ended. IfErr ended.1 (MayRefuse lacks)) }
     ensures refused { IfErr result (λ e. (e.0 ≡ Memory) × (e.1 ≡ work)) }
 {
     thread::scope(
@@ -149,7 +149,7 @@ fn in_scope<
         rt,
         move |scope| -> Result<(W::Answer, Result<(), PoolError>), (PoolError, W)>
             ensures gives { IfOk result (λ ended. W.gives work ended.0) }
-            ensures worked { let lacks = lacking_code (C.has_map calls.entry.now) (C.has_group calls.entry.now) (C.has_fold calls.entry.now) in IfOk result (λ ended. IfErr ended.1 (MayRefuse lacks)) }
+            ensures worked { let lacks = lacking_code (C.stored calls.entry.now) in IfOk result (λ ended. IfErr ended.1 (MayRefuse lacks)) }
             ensures refused { IfErr result (λ e. (e.0 ≡ Memory) × (e.1 ≡ work)) }
         {
             let Ok(workers) = start_all(scope, rt, alloc, pool, seats, calls, allowance) else {
@@ -203,7 +203,7 @@ fn join_all<L: Law, C: Closures<L>, R: Threads>(
     calls: &C,
 ) -> Result<(), PoolError>
     requires { All (λ worker. worker.promise.calls.value ≡ calls.now) workers.items }
-    ensures { IfErr result (MayRefuse (lacking_code (C.has_map calls.now) (C.has_group calls.now) (C.has_fold calls.now))) }
+    ensures { IfErr result (MayRefuse (lacking_code (C.stored calls.now))) }
 {
     let mut ended = Ok(());
     for worker in workers {
@@ -224,7 +224,7 @@ fn serve<L: Law, C: Closures<L>, K: Crew, R: Wait>(
     calls: &C,
     allowance: &Allowance,
 ) -> Result<(), PoolError>
-    ensures { IfErr result (MayRefuse (lacking_code (C.has_map calls.now) (C.has_group calls.now) (C.has_fold calls.now))) }
+    ensures { IfErr result (MayRefuse (lacking_code (C.stored calls.now))) }
 {
     let within = Within { allowance, pool };
     let worked = pool.work(rt, alloc, &mut seat, calls, &within);

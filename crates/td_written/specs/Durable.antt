@@ -7,7 +7,8 @@ use Rattle.td_calls.specs.Fits.{first_lack}
 use Rattle.td_watch.specs.View.{View}
 use Rattle.td_disk.specs.Disk.{DiskView, DiskState}
 use Rattle.td_console.specs.declared.faults.Fault.{Fault}
-use Rattle.td_console.specs.Answer.{Stored, lack_fault}
+use Rattle.td_calls.specs.Stored.{Stored}
+use Rattle.td_console.specs.Answer.{lack_fault}
 use Rattle.td_orders.specs.Orders.{orders_of, submitted_by}
 use Rattle.td_feed.specs.Said.{epochs_alone}
 use Rattle.td_feed.specs.declared.session.StreamOptions.{StreamOptions}
@@ -17,7 +18,7 @@ use Rattle.td_feed.specs.Session.{KeepsDisk, FeedsDisk, StreamsCopying, TellsAro
 
 -- the first vertex of a plan whose closure a store lacks
 abbrev pub lack_in : Stored → List PlanLine → Option CallsError
-lack_in stored plan = first_lack stored.has_map stored.has_group stored.has_fold (vertices plan)
+lack_in stored plan = first_lack stored.codes (vertices plan)
 
 module _ (stored : Stored) {D S T : Type 0} (view : D → DiskView)
     (remaining : S → Option (List ℕ)) (contents : T → Option (List ℕ)) (has : T → ℕ → Type 0) (marks : Bool) (plan : List PlanLine) where

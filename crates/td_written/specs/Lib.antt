@@ -1,3 +1,3 @@
-pub mod Beside
 pub mod Durable
 pub mod Promises
+pub mod Texts

@@ -1,6 +1,7 @@
 //! `feed` and `stream` of `td_feed` at the law of others and of closures in text.
 ghost use Rattle.std.specs.Prelude.{◌≡◌, ◌≤◌, ◌==◌, [], ◌∷◌, IfSome};
-ghost use Rattle.td_written.specs.Beside.{stored_beside};
+ghost use Rattle.td_calls.specs.Stored.{stored_in};
+ghost use Rattle.td_formula.specs.Stored.{stored_beside};
 ghost use Rattle.td_written.specs.Durable.{FeedsBy, StreamsBy};
 
 use std::alloc::Global;
@@ -36,7 +37,7 @@ pub fn feed<
 ) -> Fed<D, W, NoHost>
     requires some { 1 ≤ workers }
     requires most { workers ≤ 16 }
-    ensures { FeedsBy (stored_beside L.answers C.has_map C.has_group C.has_fold below closures.items) D.view I.remaining
+    ensures { FeedsBy (stored_beside (stored_in L.answers (C.stored below)) closures.items) D.view I.remaining
         W.contents W.HasRoom W.marks plan.now disk result.disk reader.old reader.new writer result.writer result.ended }
 {
     feed_by::<Brand, D, I, W, L, C, R>(
@@ -70,7 +71,7 @@ pub fn stream<
     requires some { 1 ≤ workers }
     requires most { workers ≤ 16 }
     requires unpublished { IfSome watch (λ w. w.words ≡ 0 ∷ 0 ∷ 0 ∷ []) }
-    ensures { StreamsBy (stored_beside L.answers C.has_map C.has_group C.has_fold below closures.items) D.view I.remaining
+    ensures { StreamsBy (stored_beside (stored_in L.answers (C.stored below)) closures.items) D.view I.remaining
         W.contents W.HasRoom W.marks H.New.view H.copies H.seen plan.now options (workers == 1) disk result.disk reader writer result.writer host result.host watch result.watch result.ended }
 {
     stream_by::<Brand, D, I, W, H, L, C, R>(
@@ -101,7 +102,7 @@ fn feed_by<
     requires stand { closures.items ≡ F.closures }
     requires some { 1 ≤ workers }
     requires most { workers ≤ 16 }
-    ensures { FeedsBy (stored_beside L.answers C.has_map C.has_group C.has_fold below F.closures) D.view I.remaining
+    ensures { FeedsBy (stored_beside (stored_in L.answers (C.stored below)) F.closures) D.view I.remaining
         W.contents W.HasRoom W.marks plan.now disk result.disk reader.old reader.new writer result.writer result.ended }
 {
     let above = WrittenCalls::<F>::new(closures);
@@ -139,7 +140,7 @@ fn stream_by<
     requires some { 1 ≤ workers }
     requires most { workers ≤ 16 }
     requires unpublished { IfSome watch (λ w. w.words ≡ 0 ∷ 0 ∷ 0 ∷ []) }
-    ensures { StreamsBy (stored_beside L.answers C.has_map C.has_group C.has_fold below F.closures) D.view I.remaining
+    ensures { StreamsBy (stored_beside (stored_in L.answers (C.stored below)) F.closures) D.view I.remaining
         W.contents W.HasRoom W.marks H.New.view H.copies H.seen plan.now options (workers == 1) disk result.disk reader writer result.writer host result.host watch result.watch result.ended }
 {
     let above = WrittenCalls::<F>::new(closures);

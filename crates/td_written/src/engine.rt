@@ -1,8 +1,9 @@
 //! `batch`, `run` and `sim` of `td_console` at the law of others and of closures in text.
 ghost use Rattle.std.specs.Prelude.{◌≡◌, ◌≤◌, ◌<◌, length};
+ghost use Rattle.td_calls.specs.Stored.{stored_in};
 ghost use Rattle.td_console.specs.Answer.{WritesAnswer, LacksRoom, IsFaultAt, IsHallFaultAt};
 ghost use Rattle.td_console.specs.Simulated.{WritesSimulated, LacksRoomSimulated};
-ghost use Rattle.td_written.specs.Beside.{stored_beside};
+ghost use Rattle.td_formula.specs.Stored.{stored_beside};
 ghost use Rattle.td_written.specs.Promises.{Promises};
 
 use std::alloc::Global;
@@ -20,9 +21,9 @@ pub fn batch<R: Source, W: Sink, L: Law, C: Closures<L> + Drop>(
     below: C,
     closures: Vec<Closure>,
 ) -> Result<(), Fault>
-    ensures { Promises (WritesAnswer (stored_beside L.answers C.has_map C.has_group C.has_fold below closures.items))
-        (LacksRoom (stored_beside L.answers C.has_map C.has_group C.has_fold below closures.items))
-        (IsFaultAt (stored_beside L.answers C.has_map C.has_group C.has_fold below closures.items))
+    ensures { Promises (WritesAnswer (stored_beside (stored_in L.answers (C.stored below)) closures.items))
+        (LacksRoom (stored_beside (stored_in L.answers (C.stored below)) closures.items))
+        (IsFaultAt (stored_beside (stored_in L.answers (C.stored below)) closures.items))
         R.remaining R.EndsWithin W.contents W.HasRoom reader.old reader.new writer.old writer.new result }
 {
     batch_by::<Brand, R, W, L, C>(alloc, reader, writer, below, closures)
@@ -39,9 +40,9 @@ pub fn run<R: Source, W: Sink, L: Law, C: Closures<L> + Drop>(
 ) -> Result<(), Fault>
     requires some { 1 ≤ workers }
     requires most { workers ≤ 16 }
-    ensures { Promises (WritesAnswer (stored_beside L.answers C.has_map C.has_group C.has_fold below closures.items))
-        (LacksRoom (stored_beside L.answers C.has_map C.has_group C.has_fold below closures.items))
-        (IsHallFaultAt (stored_beside L.answers C.has_map C.has_group C.has_fold below closures.items))
+    ensures { Promises (WritesAnswer (stored_beside (stored_in L.answers (C.stored below)) closures.items))
+        (LacksRoom (stored_beside (stored_in L.answers (C.stored below)) closures.items))
+        (IsHallFaultAt (stored_beside (stored_in L.answers (C.stored below)) closures.items))
         R.remaining R.EndsWithin W.contents W.HasRoom reader.old reader.new writer.old writer.new result }
 {
     run_by::<Brand, R, W, L, C>(alloc, reader, writer, below, closures, workers)
@@ -60,9 +61,9 @@ pub fn sim<R: Source, W: Sink, L: Law, C: Closures<L> + Drop>(
     requires some { 1 ≤ workers }
     requires most { workers ≤ 16 }
     requires picks { 0 < length picks.now }
-    ensures { Promises (WritesSimulated (stored_beside L.answers C.has_map C.has_group C.has_fold below closures.items) workers)
-        (LacksRoomSimulated (stored_beside L.answers C.has_map C.has_group C.has_fold below closures.items) workers)
-        (IsHallFaultAt (stored_beside L.answers C.has_map C.has_group C.has_fold below closures.items))
+    ensures { Promises (WritesSimulated (stored_beside (stored_in L.answers (C.stored below)) closures.items) workers)
+        (LacksRoomSimulated (stored_beside (stored_in L.answers (C.stored below)) closures.items) workers)
+        (IsHallFaultAt (stored_beside (stored_in L.answers (C.stored below)) closures.items))
         R.remaining R.EndsWithin W.contents W.HasRoom reader.old reader.new writer.old writer.new result }
 {
     sim_by::<Brand, R, W, L, C>(alloc, reader, writer, below, closures, workers, picks)
@@ -77,9 +78,9 @@ fn batch_by<F: Formulas, R: Source, W: Sink, L: Law, C: Closures<L> + Drop>(
     closures: Vec<Closure>,
 ) -> Result<(), Fault>
     requires { closures.items ≡ F.closures }
-    ensures { Promises (WritesAnswer (stored_beside L.answers C.has_map C.has_group C.has_fold below F.closures))
-        (LacksRoom (stored_beside L.answers C.has_map C.has_group C.has_fold below F.closures))
-        (IsFaultAt (stored_beside L.answers C.has_map C.has_group C.has_fold below F.closures))
+    ensures { Promises (WritesAnswer (stored_beside (stored_in L.answers (C.stored below)) F.closures))
+        (LacksRoom (stored_beside (stored_in L.answers (C.stored below)) F.closures))
+        (IsFaultAt (stored_beside (stored_in L.answers (C.stored below)) F.closures))
         R.remaining R.EndsWithin W.contents W.HasRoom reader.old reader.new writer.old writer.new result }
 {
     let above = WrittenCalls::<F>::new(closures);
@@ -99,9 +100,9 @@ fn run_by<F: Formulas, R: Source, W: Sink, L: Law, C: Closures<L> + Drop>(
     requires stand { closures.items ≡ F.closures }
     requires some { 1 ≤ workers }
     requires most { workers ≤ 16 }
-    ensures { Promises (WritesAnswer (stored_beside L.answers C.has_map C.has_group C.has_fold below F.closures))
-        (LacksRoom (stored_beside L.answers C.has_map C.has_group C.has_fold below F.closures))
-        (IsHallFaultAt (stored_beside L.answers C.has_map C.has_group C.has_fold below F.closures))
+    ensures { Promises (WritesAnswer (stored_beside (stored_in L.answers (C.stored below)) F.closures))
+        (LacksRoom (stored_beside (stored_in L.answers (C.stored below)) F.closures))
+        (IsHallFaultAt (stored_beside (stored_in L.answers (C.stored below)) F.closures))
         R.remaining R.EndsWithin W.contents W.HasRoom reader.old reader.new writer.old writer.new result }
 {
     let above = WrittenCalls::<F>::new(closures);
@@ -123,9 +124,9 @@ fn sim_by<F: Formulas, R: Source, W: Sink, L: Law, C: Closures<L> + Drop>(
     requires some { 1 ≤ workers }
     requires most { workers ≤ 16 }
     requires picks { 0 < length picks.now }
-    ensures { Promises (WritesSimulated (stored_beside L.answers C.has_map C.has_group C.has_fold below F.closures) workers)
-        (LacksRoomSimulated (stored_beside L.answers C.has_map C.has_group C.has_fold below F.closures) workers)
-        (IsHallFaultAt (stored_beside L.answers C.has_map C.has_group C.has_fold below F.closures))
+    ensures { Promises (WritesSimulated (stored_beside (stored_in L.answers (C.stored below)) F.closures) workers)
+        (LacksRoomSimulated (stored_beside (stored_in L.answers (C.stored below)) F.closures) workers)
+        (IsHallFaultAt (stored_beside (stored_in L.answers (C.stored below)) F.closures))
         R.remaining R.EndsWithin W.contents W.HasRoom reader.old reader.new writer.old writer.new result }
 {
     let above = WrittenCalls::<F>::new(closures);

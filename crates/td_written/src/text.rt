@@ -1,6 +1,6 @@
 //! The text of a file's bytes.
 ghost use Rattle.std.specs.Prelude.{◌≡◌, ◌<◌, string_bytes, IfOk};
-ghost use Rattle.td_written.specs.Beside.{ascii, text_in};
+ghost use Rattle.td_written.specs.Texts.{ascii, text_in};
 
 use std::alloc::{AllocError, Global};
 

@@ -6,12 +6,13 @@ use Rattle.td_plan.specs.Blocks.{vertices}
 use Rattle.td_plan.specs.Tree.{Nodes, size, tree_of}
 use Rattle.td_plan.specs.Tree.Nodes.{done, node, block}
 use Rattle.td_calls.specs.Fits.{first_lack, lacking_code}
+use Rattle.td_calls.specs.Stored.{Codes}
 use Rattle.td_batch.specs.Quiet.{IsLoopBody}
 
-module _ (maps groups folds : ℕ → Bool) where
+module _ (stored : Codes) where
   -- a vertex of this number, whose closure is stored
   abbrev pub IsAt : ℕ → Vertex → Type 0
-  IsAt n v = (v.number ≡ n) × (lacking_code maps groups folds v.kind ≡ None)
+  IsAt n v = (v.number ≡ n) × (lacking_code stored v.kind ≡ None)
 
   -- the vertices in loops, from number n on
   abbrev pub IsInner : ℕ → Nodes → Type 0
@@ -27,7 +28,7 @@ module _ (maps groups folds : ℕ → Bool) where
 
 -- a tree is that of a plan, and its vertices are in their places with any closures that fit the plan
 abbrev pub IsReady : List Line → Nodes → Type 0
-IsReady plan nodes = (nodes ≡ tree_of plan) × ((maps groups folds : ℕ → Bool) → first_lack maps groups folds (vertices plan) ≡ None → IsOuter maps groups folds 0 nodes)
+IsReady plan nodes = (nodes ≡ tree_of plan) × ((stored : Codes) → first_lack stored (vertices plan) ≡ None → IsOuter stored 0 nodes)
 
 -- how much a tree has: each loop counts more than its body
 abbrev pub weight : Nodes → ℕ

@@ -9,8 +9,8 @@ ghost use Rattle.td_disk.specs.Disk.{IsDurable};
 ghost use Rattle.td_head.specs.Layout.{Sizes};
 ghost use Rattle.td_gate.specs.Reading.{Each};
 ghost use Rattle.td_gate.specs.Regions.{Replaces};
-ghost use Rattle.td_journal.specs.Steps.{IsRing};
-ghost use Rattle.td_journal.specs.Cell.{cell_of, cell_bytes, ring_len, is_batch, FitsEntry};
+ghost use Rattle.td_journal.specs.Steps.{HasRing};
+ghost use Rattle.td_journal.specs.Cell.{cell_of, cell_bytes, is_batch, FitsEntry};
 ghost use Rattle.td_journal.specs.Numbers.{rise};
 ghost use Rattle.td_store.specs.standing.Standing.{Standing, with_more};
 ghost use Rattle.td_store.specs.standing.Told.{inputs_of, ring_of};
@@ -31,8 +31,7 @@ fn put_epoch<D: Disk>(
     epoch: u64,
     submitted: &Submitted,
 ) -> Result<(), JournalError>
-    requires ring { IsRing journal.now }
-    requires room { journal.now.at + ring_len journal.now.m journal.now.n ≤ (D.view device.old).capacity }
+    requires ring { HasRing journal.now (D.view device.old).capacity }
     requires few { length submitted.now.batch ≤ journal.now.m }
     requires small { epoch < 2 ^ 63 }
     ensures refusals { IfErr result (λ e. (e ≡ JournalError.Memory) ⊎ (e ≡ JournalError.Device)) }
@@ -71,8 +70,7 @@ fn write_epoch<D: Disk>(
     epoch: u64,
     submitted: &Submitted,
 ) -> Result<(), JournalError>
-    requires ring { IsRing journal.now }
-    requires room { journal.now.at + ring_len journal.now.m journal.now.n ≤ (D.view device.old).capacity }
+    requires ring { HasRing journal.now (D.view device.old).capacity }
     requires few { length submitted.now.batch ≤ journal.now.m }
     requires behind { 8258 ≤ journal.now.at }
     ensures refusals { IfErr result (λ e. (e ≡ JournalError.Memory) ⊎ (e ≡ JournalError.Device)) }
@@ -99,8 +97,7 @@ fn write_epochs<D: Disk>(
     device: &mut D,
     submitted: &[Submitted],
 ) -> Result<(), JournalError>
-    requires ring { IsRing journal.now }
-    requires room { journal.now.at + ring_len journal.now.m journal.now.n ≤ (D.view device.old).capacity }
+    requires ring { HasRing journal.now (D.view device.old).capacity }
     requires few { All (λ x. length x.batch ≤ journal.now.m) submitted.now }
     requires small { journal.now.kept + length submitted.now < 2 ^ 63 }
     requires behind { 8258 ≤ journal.now.at }
@@ -136,8 +133,7 @@ pub(crate) fn put_epochs<D: Disk>(
     device: &mut D,
     submitted: &[Submitted],
 ) -> Result<(), JournalError>
-    requires ring { IsRing journal.now }
-    requires room { journal.now.at + ring_len journal.now.m journal.now.n ≤ (D.view device.old).capacity }
+    requires ring { HasRing journal.now (D.view device.old).capacity }
     requires few { All (λ x. length x.batch ≤ journal.now.m) submitted.now }
     requires small { journal.now.kept + length submitted.now < 2 ^ 63 }
     requires behind { 8258 ≤ journal.now.at }

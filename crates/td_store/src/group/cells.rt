@@ -12,8 +12,8 @@ ghost use Rattle.td_gate.specs.CrashSafe.{CrashSafe, Unchanged};
 ghost use Rattle.td_gate.specs.Reads.{IsRead};
 ghost use Rattle.td_gate.specs.Region.{opened, IsClosed, IsFilled, IsSettled, Closes};
 ghost use Rattle.td_head.specs.Layout.{size_of};
-ghost use Rattle.td_journal.specs.Steps.{IsRing};
-ghost use Rattle.td_journal.specs.Cell.{cell_of, cell_len, ring_len};
+ghost use Rattle.td_journal.specs.Steps.{HasRing};
+ghost use Rattle.td_journal.specs.Cell.{cell_of, cell_len};
 ghost use Rattle.td_store.specs.standing.Told.{ring_of as ring_in};
 ghost use Rattle.td_store.specs.group.Groups.{gated, AllFew, AllFit, HasPieces, ChangesCells, Spares};
 ghost use Rattle.td_journal.specs.declared.error.JournalError.TheVariants.{Memory};
@@ -30,10 +30,8 @@ const CLOSED: u8 = 0;
 /// The ring of cells of a disk of this shape, of which those of the epochs up to `kept` may be overwritten.
 pub fn ring_of(shape: &Shape, kept: u64) -> Journal
     ensures ring { result ≡ ring_in shape.now kept }
-    ensures cells { 0 < result.n }
+    ensures within { HasRing result (size_of shape.now) }
     ensures few { result.n ≤ 65536 }
-    ensures records { result.m ≤ 65536 }
-    ensures within { result.at + ring_len result.m result.n ≤ size_of shape.now }
 {
     let _bytes = shape.bytes();
     Journal {
@@ -79,8 +77,7 @@ pub(crate) fn gated(
 
 /// How many bytes a cell has, its gate too.
 fn cell_size(journal: &Journal) -> usize
-    requires ring { IsRing journal.now }
-    requires room { journal.now.at + ring_len journal.now.m journal.now.n < 2 ^ 64 }
+    requires { HasRing journal.now (2 ^ 64) }
     ensures { result ≡ cell_len journal.now.m + 1 }
 {
     journal.cell_of(0).len as usize + 1
@@ -104,8 +101,7 @@ fn write_run<D: Disk>(
     count: usize,
     bytes: &[u8],
 ) -> Result<(), Fault>
-    requires ring { IsRing journal.now }
-    requires room { journal.now.at + ring_len journal.now.m journal.now.n ≤ (D.view device.old).capacity }
+    requires ring { HasRing journal.now (D.view device.old).capacity }
     requires run { first % journal.now.n + count ≤ journal.now.n }
     requires whole { count * (cell_len journal.now.m + 1) ≤ length bytes.now }
     ensures device { Calls D.view result device.old device.new }
@@ -133,8 +129,7 @@ fn write_cells<D: Disk>(
     count: usize,
     bytes: &[u8],
 ) -> Result<(), Fault>
-    requires ring { IsRing journal.now }
-    requires room { journal.now.at + ring_len journal.now.m journal.now.n ≤ (D.view device.old).capacity }
+    requires ring { HasRing journal.now (D.view device.old).capacity }
     requires few { count ≤ journal.now.n }
     requires whole { length bytes.now ≡ count * (cell_len journal.now.m + 1) }
     requires small { first + count < 2 ^ 64 }
@@ -170,8 +165,7 @@ pub(crate) fn fill_cells<D: Disk>(
     count: usize,
     written: Written<'_>,
 ) -> Result<(), Fault>
-    requires ring { IsRing journal.now }
-    requires room { journal.now.at + ring_len journal.now.m journal.now.n ≤ (D.view device.old).capacity }
+    requires ring { HasRing journal.now (D.view device.old).capacity }
     requires few { count + 1 ≤ journal.now.n }
     requires payload { length written.payload.now ≡ cell_len journal.now.m }
     requires whole { length written.others.now ≡ count * (cell_len journal.now.m + 1) }

@@ -11,8 +11,7 @@ ghost use Rattle.td_disk.specs.Calls.{Calls};
 ghost use Rattle.td_disk.specs.Disk.{IsDurable};
 ghost use Rattle.td_gate.specs.CrashSafe.{CrashSafe, Unchanged};
 ghost use Rattle.td_gate.specs.Reads.{IsRead};
-ghost use Rattle.td_journal.specs.Cell.{ring_len};
-ghost use Rattle.td_journal.specs.Steps.{IsRing};
+ghost use Rattle.td_journal.specs.Steps.{HasRing};
 ghost use Rattle.td_store.specs.group.Groups.{AreShut, ClosesSome};
 ghost use Rattle.td_store.specs.standing.Steps.{ClosesFree, WritesOnlyIfOpen};
 
@@ -28,8 +27,7 @@ fn close_gates<D: Disk>(
     first: u64,
     count: u64,
 ) -> Result<bool, Fault>
-    requires ring { IsRing journal.now }
-    requires room { journal.now.at + ring_len journal.now.m journal.now.n ≤ (D.view device.old).capacity }
+    requires ring { HasRing journal.now (D.view device.old).capacity }
     requires few { count ≤ journal.now.n }
     requires small { first + count < 2 ^ 64 }
     ensures device { Calls D.view result device.old device.new }
@@ -59,8 +57,7 @@ fn close_cells<D: Disk>(
     first: u64,
     count: u64,
 ) -> Result<(), Fault>
-    requires ring { IsRing journal.now }
-    requires room { journal.now.at + ring_len journal.now.m journal.now.n ≤ (D.view device.old).capacity }
+    requires ring { HasRing journal.now (D.view device.old).capacity }
     requires few { count ≤ journal.now.n }
     requires small { first + count < 2 ^ 64 }
     ensures device { Calls D.view result device.old device.new }
@@ -87,8 +84,7 @@ pub fn close_free<D: Disk>(
     first: u64,
     count: u64,
 ) -> Result<(), Fault>
-    requires ring { IsRing journal.now }
-    requires room { journal.now.at + ring_len journal.now.m journal.now.n ≤ (D.view device.old).capacity }
+    requires ring { HasRing journal.now (D.view device.old).capacity }
     requires few { count ≤ journal.now.n }
     requires small { first + count < 2 ^ 64 }
     ensures device { Calls D.view result device.old device.new }

@@ -11,10 +11,10 @@ ghost use Rattle.td_disk.specs.Disk.{IsDurable};
 ghost use Rattle.td_gate.specs.CrashSafe.{CrashSafe};
 ghost use Rattle.td_gate.specs.Region.{IsFilled};
 ghost use Rattle.td_gate.specs.Steps.{WritesNothing};
-ghost use Rattle.td_journal.specs.Cell.{cell_of, cell_len, ring_len};
+ghost use Rattle.td_journal.specs.Cell.{cell_of, cell_len};
 ghost use Rattle.td_journal.specs.Images.{IsBorne};
 ghost use Rattle.td_journal.specs.Refusals.{IsMemoryOrDevice};
-ghost use Rattle.td_journal.specs.Steps.{IsRing};
+ghost use Rattle.td_journal.specs.Steps.{HasRing};
 ghost use Rattle.td_plan.specs.Lines.{Line};
 ghost use Rattle.td_head.specs.declared.head.Head.{Head as AnyHead};
 ghost use Rattle.td_store.specs.standing.Standing.{Standing, with_more};
@@ -49,8 +49,7 @@ fn clear_behind<D: Disk>(
     count: u64,
     is_full: bool,
 ) -> Result<(), JournalError>
-    requires ring { IsRing journal.now }
-    requires room { journal.now.at + ring_len journal.now.m journal.now.n ≤ (D.view device.old).capacity }
+    requires ring { HasRing journal.now (D.view device.old).capacity }
     requires some { 0 < count }
     requires few { touched is_full count ≤ journal.now.n }
     requires small { first + count ≤ 2 ^ 63 }
@@ -84,8 +83,7 @@ fn close_ahead<D: Disk>(
     count: u64,
     is_full: bool,
 ) -> Result<(), Fault>
-    requires ring { IsRing journal.now }
-    requires room { journal.now.at + ring_len journal.now.m journal.now.n ≤ (D.view device.old).capacity }
+    requires ring { HasRing journal.now (D.view device.old).capacity }
     requires small { first + count < 2 ^ 64 }
     ensures device { Calls D.view result device.old device.new }
     ensures crash_safe { (D.view device.old).lawful → IsDurable (D.view device.old).state
@@ -113,8 +111,7 @@ pub(crate) fn get_ready<D: Disk>(
     written: Written<'_>,
     is_full: bool,
 ) -> Result<(), JournalError>
-    requires ring { IsRing journal.now }
-    requires room { journal.now.at + ring_len journal.now.m journal.now.n ≤ (D.view device.old).capacity }
+    requires ring { HasRing journal.now (D.view device.old).capacity }
     requires few { touched is_full (length others.now + 1) ≤ journal.now.n }
     requires small { first + length others.now + 1 ≤ 2 ^ 63 }
     requires payload { length written.payload.now ≡ cell_len journal.now.m }
@@ -181,8 +178,7 @@ pub fn submit_group<D: Disk>(
     group: &[Submitted],
     next: NextCell,
 ) -> Result<(), JournalError>
-    requires ring { IsRing journal.now }
-    requires room { journal.now.at + ring_len journal.now.m journal.now.n ≤ (D.view device.old).capacity }
+    requires ring { HasRing journal.now (D.view device.old).capacity }
     requires place { HasPlace journal.now first group.now }
     ensures refusals { IfErr result IsMemoryOrDevice }
     ensures device { KeepsDevice D.view JournalError.Device result device.old device.new }
@@ -209,8 +205,7 @@ fn put_group<D: Disk>(
     head: &Submitted,
     others: &[Submitted],
 ) -> Result<(), JournalError>
-    requires ring { IsRing journal.now }
-    requires room { journal.now.at + ring_len journal.now.m journal.now.n ≤ (D.view device.old).capacity }
+    requires ring { HasRing journal.now (D.view device.old).capacity }
     requires few { AllFew journal.now.m (head.now ∷ others.now) }
     requires later { journal.now.kept < first }
     requires free { first + length others.now ≤ journal.now.kept + journal.now.n }

@@ -10,14 +10,15 @@ ghost use Rattle.td_gate.specs.Steps.{WritesNothing};
 ghost use Rattle.td_head.specs.Layout.{size_of};
 ghost use Rattle.td_journal.specs.declared.payload.Submitted.{Submitted as AnySubmitted};
 ghost use Rattle.td_journal.specs.declared.error.JournalError.{JournalError};
-ghost use Rattle.td_journal.specs.Cell.{is_batch, ring_len};
+ghost use Rattle.td_journal.specs.Cell.{is_batch};
+ghost use Rattle.td_journal.specs.Steps.{MayReadFrom};
 ghost use Rattle.td_journal.specs.Ring.{told_after};
 ghost use Rattle.td_store.specs.standing.Refusals.{of_journal};
 ghost use Rattle.td_store.specs.standing.Standing.{standing_from};
 ghost use Rattle.td_store.specs.standing.Told.{Told, inputs_of, folds_of, floor_of as floor_in, slots_of as slots_in};
 ghost use Rattle.td_store.specs.standing.Tells.{Tells};
 ghost use Rattle.td_store.specs.standing.Read.{standing_of, MayStand, Refused, IsRecovered, KeepsRecovered, IsCountedOf, KeepsCounted, DiskRefuses, SyncedRefuses};
-ghost use Rattle.td_slots.specs.Slot.{slot_len};
+ghost use Rattle.td_slots.specs.Steps.{HasSlots};
 
 use crate::group::ring_of;
 use crate::standing::error::KeeperError;
@@ -98,9 +99,7 @@ fn read_before<D: Disk>(alloc: Global, device: &mut D, plan: &Plan) -> Result<Be
         → length w ≤ b.journal.n → b.checkpoint.epoch + length w < 2 ^ 63
         → MayStand plan.now b.head b.checkpoint.slot (standing_from b.checkpoint w)) }
     ensures fits { IfOk result (λ b. size_of b.head.shape ≤ (D.view device.old).capacity) }
-    ensures small { IfOk result (λ b. b.checkpoint.epoch < 2 ^ 63) }
-    ensures cells { IfOk result (λ b. (0 < b.journal.n) × (b.journal.n ≤ 65536) × (b.journal.m ≤ 65536)) }
-    ensures room { IfOk result (λ b. b.journal.at + ring_len b.journal.m b.journal.n ≤ (D.view device.old).capacity) }
+    ensures ring { IfOk result (λ b. MayReadFrom b.journal (D.view device.old).capacity b.checkpoint.epoch) }
     ensures refused { IfErr result (λ e. DiskRefuses D.view plan.now e device.old) }
     ensures failures { CountsDevice result KeeperError.Device (D.view device.old).failures (D.view device.new).failures }
     ensures read { IsRead D.view device.old device.new }
@@ -231,8 +230,7 @@ pub fn count_device<D: Disk>(
 /// The slots of a disk of this shape.
 pub fn slots_of(shape: &Shape) -> Slots
     ensures slots { result ≡ slots_in shape.now }
-    ensures limit { result.k ≤ 1048576 }
-    ensures within { result.at + 2 * (slot_len result.k + 1) ≤ size_of shape.now }
+    ensures within { HasSlots result (size_of shape.now) }
 {
     let _bytes = shape.bytes();
     Slots {

@@ -6,9 +6,8 @@ ghost use Rattle.td_head.specs.Head.{raised};
 ghost use Rattle.td_head.specs.HeadError.{IsRaiseRefusal};
 ghost use Rattle.td_head.specs.Layout.{size_of};
 ghost use Rattle.td_slots.specs.Steps.{HasSlots, RefusesStates, StatesFit};
-ghost use Rattle.td_journal.specs.Cell.{ring_len};
 ghost use Rattle.td_journal.specs.Refusals.{IsMemoryOrDevice};
-ghost use Rattle.td_journal.specs.Steps.{IsRing};
+ghost use Rattle.td_journal.specs.Steps.{HasRing};
 ghost use Rattle.td_store.specs.standing.Steps.{SubmitsBatch, WritesCut, RaisesHead};
 
 use crate::standing::laws;
@@ -33,8 +32,7 @@ pub fn submit_batch<D: Disk>(
     request: u64,
     batch: &Batch,
 ) -> Result<(), JournalError>
-    requires ring { IsRing journal.now }
-    requires room { journal.now.at + ring_len journal.now.m journal.now.n ≤ (D.view device.old).capacity }
+    requires ring { HasRing journal.now (D.view device.old).capacity }
     requires few { length batch.now ≤ journal.now.m }
     requires small { epoch < 2 ^ 63 }
     ensures refusals { IfErr result IsMemoryOrDevice }

@@ -7,5 +7,5 @@ use Rattle.td_batch.proofs.epoch.bring.Given as goal
 abbrev pub invariant-loop-left : goal.invariant-loop-left
 invariant-loop-left g l =
     (l.before-inside.is_first ≡ true)
-    × Going (input_of g.L.Law.answers (g.S.KeptStates.states l.given.states.now) l.given.batch.now) (g.C.Closures.has_map l.given.calls.now) (g.C.Closures.has_group l.given.calls.now) (g.C.Closures.has_fold l.given.calls.now)
+    × Going (input_of g.L.Law.answers (g.S.KeptStates.states l.given.states.now) l.given.batch.now) (g.C.Closures.stored l.given.calls.now)
     (nodes_of l.tree) (nodes_of l.left) l.bags.items l.brought.outputs.items l.brought.changes.items

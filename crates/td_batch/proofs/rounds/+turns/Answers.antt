@@ -70,18 +70,16 @@ go_round-returns-clause-length g t c =
 
 pub walk-go_round-requires : goal.walk-go_round-requires
 walk-go_round-requires g t c κs within =
-    let maps = g.C.Closures.has_map c.args.given.now.calls.now in
-    let groups = g.C.Closures.has_group c.args.given.now.calls.now in
-    let folds = g.C.Closures.has_fold c.args.given.now.calls.now in
+    let stored = g.C.Closures.stored c.args.given.now.calls.now in
     let n = length c.args.bags.now.items in
     let body : Nodes = nodes_of c.in-Loop.body.value in
     let rest : Nodes = nodes_of c.in-Loop.rest.value in
-    let here : IsInner maps groups folds n (block c.in-Loop.bound body rest) = subst (λ x. IsInner maps groups folds n (nodes_of x)) c.in-Loop.is c.requires in
+    let here : IsInner stored n (block c.in-Loop.bound body rest) = subst (λ x. IsInner stored n (nodes_of x)) c.in-Loop.is c.requires in
     let is : nodes_of c.deref-in-Loop.result.now ≡ body = ap nodes_of c.deref-in-Loop.ensures in (
       (let d : 2 * weight (nodes_of c.args.nodes.now) ≡ t = c.decreases in let e : weight (nodes_of c.args.nodes.now) ≡ 1 + weight body + weight rest = ap (λ x. weight (nodes_of x)) c.in-Loop.is in
           let b : weight (nodes_of c.deref-in-Loop.result.now) ≡ weight body = ap weight is in
           let f : 2 * weight (nodes_of c.deref-in-Loop.result.now) + 1 < t = omega (arith, d, e, b) in f),
-      (search rules, (search rules, (search rules, ((here.1.0, subst (IsLoopBody here.1.0 n) (sym is) here.1.1), (subst (IsInner maps groups folds n) (sym is) here.2, here.0))))),
+      (search rules, (search rules, (search rules, ((here.1.0, subst (IsLoopBody here.1.0 n) (sym is) here.1.1), (subst (IsInner stored n) (sym is) here.2, here.0))))),
     )
 
 pub walk-returns-in-Done-clause-alike : goal.walk-returns-in-Done-clause-alike

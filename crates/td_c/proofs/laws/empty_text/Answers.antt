@@ -7,7 +7,8 @@ use Rattle.td_catalogue.specs.Shelves.{in_catalogue, is_first}
 use Rattle.td_catalogue.specs.Maps.{map_of}
 use Rattle.td_catalogue.specs.Groups.{group_of}
 use Rattle.td_catalogue.specs.Folds.{fold_of}
-use Rattle.td_c.specs.Stores.{stored_catalogue, stored_beside}
+use Rattle.td_formula.specs.Stored.{stored_beside}
+use Rattle.td_c.specs.Stores.{stored_catalogue}
 use Rattle.td_c.proofs.Empty.{spells_none, not_first, adds_nothing}
 use Rattle.td_c.proofs.laws.empty_text.Goals as goal
 

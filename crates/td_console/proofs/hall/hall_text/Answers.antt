@@ -40,7 +40,7 @@ run_epoch-requires g c =
     let turn = YieldsList-turn (YieldsList-from_vec c.args.batches.items given.0 (given.1 ∙ c.args.batches.ok.0)) c.loop-batch.yielded c.loop-batch.batch-iterator c.loop-batch.yielded_by c.next.result c.next.new.self c.in-Some.batch c.in-Some.is c.next.ensures.steps in
     let here = All-get_or (λ batch. IsTrue (list_all (λ e. is_input_of c.args.plan.now e.input) batch)) c.args.batches.items (length c.loop-batch.yielded) c.in-Some.batch turn.0 c.requires.accepted in
     record {
-      fits = subst (λ p. first_lack (g.C.Closures.has_map c.args.calls.now) (g.C.Closures.has_group c.args.calls.now) (g.C.Closures.has_fold c.args.calls.now) (vertices p) ≡ None) (sym plan) c.requires.fits;
+      fits = subst (λ p. first_lack (g.C.Closures.stored c.args.calls.now) (vertices p) ≡ None) (sym plan) c.requires.fits;
       accepted = subst (λ p. accepts p c.in-Some.batch ≡ true) (sym plan) (subst (λ batch. accepts c.args.plan.now batch ≡ true) (sym turn.1) here);
       below = omega (arith, same.next, c.loop-batch.invariant.next, turn.0, c.requires.few);
       between = same.between;

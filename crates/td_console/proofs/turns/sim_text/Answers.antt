@@ -17,7 +17,7 @@ pub play-requires-clause-fits : goal.play-requires-clause-fits
 play-requires-clause-fits g c =
     let start = opened c.args.plan.now [] 1 c.args.workers in
     let facts = subst (IsReleased start c.args.batches.items) (sym c.in_ok-hall.ensures.ok) (is_released start c.args.batches.items) in
-    subst (λ p. first_lack (g.C.Closures.has_map c.args.calls.now) (g.C.Closures.has_group c.args.calls.now) (g.C.Closures.has_fold c.args.calls.now) (vertices p) ≡ None)
+    subst (λ p. first_lack (g.C.Closures.stored c.args.calls.now) (vertices p) ≡ None)
     (sym facts.plan) c.requires.fits
 
 pub play-requires-clause-none_out : goal.play-requires-clause-none_out

@@ -9,7 +9,7 @@ pub task_fault-requires : goal.task_fault-requires
 task_fault-requires g c =
     let task = c.in-Ok-Some.task in
     let taken = took c.args.hall.now c.take.new.self c.args.shard task (subst (λ o. Takes c.args.hall.now c.args.shard (has_taken o) c.take.new.self) c.in-Ok-Some.field-0-is c.in-Ok-Some.ensures.taken) in
-    let lacks = lacks_none (g.C.Closures.has_map c.args.calls.now) (g.C.Closures.has_group c.args.calls.now) (g.C.Closures.has_fold c.args.calls.now) c.args.hall.now.plan task.kind task.vertex c.requires.fits taken.may.kind in
+    let lacks = lacks_none (g.C.Closures.stored c.args.calls.now) c.args.hall.now.plan task.kind task.vertex c.requires.fits taken.may.kind in
     c.in-Err-run.ensures.refused ∙ ap (refusal task.vertex) lacks
 
 pub hall_fault-requires-in-Err-give : goal.hall_fault-requires-in-Err-give

@@ -1,14 +1,12 @@
 use Rattle.std.proofs.Common.{ap, ◌∙◌, ◌++◌, map, lit<}
 use Rattle.std.specs.Prelude.{string_bytes, decimal}
-use Rattle.td_plan.specs.Lines.{words_of_kind}
 use Rattle.td_plan.specs.Steps.Printed.{spaced}
 use Rattle.td_plan.proofs.Printing.{vertex_printed}
 use Rattle.td_plan.proofs.printer.print_vertex.Goals as goal
 
 pub returns-clause-ok : goal.returns-clause-ok
 returns-clause-ok c =
-    vertex_printed c.args.placed.now.vertex (string_bytes c.args.text.now) (string_bytes c.write.new.self) (string_bytes c.print_kind.new.text) (string_bytes c.print_sources.new.text) (string_bytes c.push.new.self)
-    (c.in_ok-write.ensures.bytes ∙ ap (λ n. string_bytes c.args.text.now ++ decimal n) c.number-number.ensures)
-    (c.in_ok-print_kind.ensures.ok ∙ ap (λ k. string_bytes c.write.new.self ++ spaced (words_of_kind k)) c.kind.ensures)
-    (c.in_ok-print_sources.ensures.ok ∙ ap (λ s. string_bytes c.print_kind.new.text ++ spaced (map decimal s)) c.sources.ensures)
+    vertex_printed c.args.placed.now.vertex (string_bytes c.args.text.now) (string_bytes c.print_name.new.text) (string_bytes c.print_sources.new.text) (string_bytes c.push.new.self)
+    c.in_ok-print_name.ensures.ok
+    (c.in_ok-print_sources.ensures.ok ∙ ap (λ s. string_bytes c.print_name.new.text ++ spaced (map decimal s)) c.sources.ensures)
     (c.in_ok-push.ensures.bytes ∙ ap (λ e. string_bytes c.print_sources.new.text ++ e) (c.in_ok-push.ensures.ascii (lit< tt)))

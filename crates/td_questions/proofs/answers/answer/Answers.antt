@@ -1,11 +1,11 @@
 use Rattle.std.proofs.Common.{◌≡◌, ℕ, Result, Ok, Err, IfOk, Vec, Global, sym, ap, ◌∙◌}
 use Rattle.td_stamp.specs.declared.values.State.{State}
 use Rattle.td_stamp.specs.States.{StateList}
-use Rattle.td_questions.specs.declared.error.QuestionError.{QuestionError}
+use Rattle.td_stamp.specs.declared.error.StampError.{StampError}
 use Rattle.td_questions.specs.Asked.{answer_to, at_most, at_percentile, kept_from}
 use Rattle.td_questions.proofs.answers.answer.Goals as goal
 
-carried : (xs ys : StateList) → xs ≡ ys → (r : Result (Vec ((ℕ × ℕ) × State) Global) QuestionError) → IfOk r (λ v. v.items ≡ xs) → IfOk r (λ v. v.items ≡ ys)
+carried : (xs ys : StateList) → xs ≡ ys → (r : Result (Vec ((ℕ × ℕ) × State) Global) StampError) → IfOk r (λ v. v.items ≡ xs) → IfOk r (λ v. v.items ≡ ys)
 carried xs ys is (Ok v) h = h ∙ is
 carried xs ys is (Err why) h = tt
 

@@ -3,7 +3,7 @@ use Rattle.std.proofs.lemmas.List.Elements.{recursion_from_All}
 use Rattle.std.proofs.lemmas.Bool.Decides.{nat_tests}
 use Rattle.td_stamp.specs.Bag.{set_insert}
 use Rattle.td_stamp.specs.States.{StateList}
-use Rattle.td_questions.specs.declared.error.QuestionError.{QuestionError}
+use Rattle.td_stamp.specs.declared.error.StampError.{StampError}
 use Rattle.td_questions.specs.Asked.{Entry, at_most}
 use Rattle.td_questions.specs.Ranks.{ranked_cmp}
 use Rattle.td_questions.proofs.Weights.{in_all, put_one, entries_are}
@@ -22,7 +22,7 @@ loop-place-preserved-in-Continue-1 c =
       few = c.in_ok-keep_first.ensures.few;
     }
 
-carried : (xs ys : StateList) → xs ≡ ys → (r : Result (Vec Entry Global) QuestionError) → IfOk r (λ v. v.items ≡ xs) → IfOk r (λ v. v.items ≡ ys)
+carried : (xs ys : StateList) → xs ≡ ys → (r : Result (Vec Entry Global) StampError) → IfOk r (λ v. v.items ≡ xs) → IfOk r (λ v. v.items ≡ ys)
 carried xs ys is (Ok v) h = h ∙ is
 carried xs ys is (Err why) h = tt
 

@@ -10,7 +10,7 @@ loop-worker-preserved-then-is_ok g c =
     let worker = c.in-Some.worker in
     let rest = c.next.new.self.rest.items in
     let all : All (λ w. w.promise.calls.value ≡ calls) (worker ∷ rest) = subst (All (λ w. w.promise.calls.value ≡ calls)) c.in-Some.ensures.steps.0 c.loop-worker.invariant.1 in (
-      subst (λ by. IfErr c.join-worked.result (MayRefuse (lacking_code (g.C.Closures.has_map by) (g.C.Closures.has_group by) (g.C.Closures.has_fold by))))
+      subst (λ by. IfErr c.join-worked.result (MayRefuse (lacking_code (g.C.Closures.stored by))))
           (All-head (λ w. w.promise.calls.value ≡ calls) worker rest all) c.join-worked.ensures,
       All-tail (λ w. w.promise.calls.value ≡ calls) worker rest all,
     )

@@ -6,5 +6,5 @@ use Rattle.td_workers.proofs.workers.join_all.Given as goal
 -- those that were joined ended by these closures, and so do the others
 abbrev pub invariant-loop-worker : goal.invariant-loop-worker
 invariant-loop-worker g l =
-    IfErr l.ended (MayRefuse (lacking_code (g.C.Closures.has_map l.calls) (g.C.Closures.has_group l.calls) (g.C.Closures.has_fold l.calls)))
+    IfErr l.ended (MayRefuse (lacking_code (g.C.Closures.stored l.calls)))
     × All (λ worker. worker.promise.calls.value ≡ l.calls) l.worker-iterator.rest.items

@@ -1,6 +1,6 @@
 use Rattle.std.proofs.Common.{◌≡◌, ◌++◌, length}
 use Rattle.std.specs.String.{string_bytes}
-use Rattle.td_written.specs.Beside.{text_in}
+use Rattle.td_written.specs.Texts.{text_in}
 use Rattle.td_written.proofs.text.text_in.Given as goal
 
 abbrev pub invariant-loop-rest : goal.invariant-loop-rest

@@ -20,11 +20,9 @@ returns-clause-changes g c = grind (arith, common_steps)
 pub returns-clause-states : goal.returns-clause-states
 returns-clause-states g c =
     let epoch : EpochInput = input_of g.L.Law.answers (g.S.KeptStates.states c.args.states.now) c.args.batch.now in
-    let maps = g.C.Closures.has_map c.args.calls.now in
-    let groups = g.C.Closures.has_group c.args.calls.now in
-    let folds = g.C.Closures.has_fold c.args.calls.now in
+    let stored = g.C.Closures.stored c.args.calls.now in
     let nodes : Nodes = nodes_of c.self.inside.tree in
-    let fits = subst (λ plan. first_lack maps groups folds (vertices plan) ≡ None) (sym c.self.view_is) c.requires.fits in
+    let fits = subst (λ plan. first_lack stored (vertices plan) ≡ None) (sym c.self.view_is) c.requires.fits in
     let is : nodes ≡ tree_of c.args.self.now = c.self.invariant.0 ∙ ap tree_of c.self.view_is in
     ap (fold with_change epoch.states) c.in_ok-outputs.ensures.changes
-    ∙ changes_are_kept epoch maps groups folds nodes (c.self.invariant.1 maps groups folds fits) ∙ ap (λ n. (epoch_result epoch n).states) is
+    ∙ changes_are_kept epoch stored nodes (c.self.invariant.1 stored fits) ∙ ap (λ n. (epoch_result epoch n).states) is

@@ -11,9 +11,9 @@ returns-clause-tree c =
     c.into_tree.ensures ∙ ap (λ (r : Rest). r.inside) c.in_ok-built.ensures ∙ ap (λ placed. tree_of (lines_of_marks c.marks.result.now placed)) c.vertices.ensures.all ∙ ap tree_of c.marks.ensures.lines
 
 pub returns-clause-outer : goal.returns-clause-outer
-returns-clause-outer c = λ maps groups folds fits.
+returns-clause-outer c = λ stored fits.
     let plan = c.args.plan.now in
     let lawful = c.vertices.ensures.lawful in
-    subst (IsOuter maps groups folds 0) (sym (returns-clause-tree c))
-    (tree_is_outer maps groups folds (tree_of plan) (c.well_placed.ensures plan lawful) (c.stands_well.ensures plan lawful)
-    (ap (first_lack maps groups folds) (c.trees.ensures.all plan lawful) ∙ fits))
+    subst (IsOuter stored 0) (sym (returns-clause-tree c))
+    (tree_is_outer stored (tree_of plan) (c.well_placed.ensures plan lawful) (c.stands_well.ensures plan lawful)
+    (ap (first_lack stored) (c.trees.ensures.all plan lawful) ∙ fits))

@@ -26,23 +26,23 @@ returns-clause-delivered g c = did g.L.Law.answers c.self.inside.floor c.drain_f
 
 pub returns-clause-passed : goal.returns-clause-passed
 returns-clause-passed g c =
-    all_passed g.L.Law.answers c.never_stuck.ensures (state_of c.drain_floor.new.floor) c.drain_floor.ensures.further.idle.hall.reached c.in_ok-drain_floor.ensures.none_left
+    all_passed g.L.Law.answers c.known.ensures.never_stuck (state_of c.drain_floor.new.floor) c.drain_floor.ensures.further.idle.hall.reached c.in_ok-drain_floor.ensures.none_left
 
 pub returns-clause-unpassed : goal.returns-clause-unpassed
 returns-clause-unpassed g c =
     let reached = c.drain_floor.ensures.further.idle.hall.reached in
-    none_unpassed (state_of c.drain_floor.new.floor) (c.reached_in_order.ensures.numbers _ reached).base
-    (all_passed g.L.Law.answers c.never_stuck.ensures (state_of c.drain_floor.new.floor) reached c.in_ok-drain_floor.ensures.none_left)
+    none_unpassed (state_of c.drain_floor.new.floor) (c.known.ensures.reached_in_order.numbers _ reached).base
+    (all_passed g.L.Law.answers c.known.ensures.never_stuck (state_of c.drain_floor.new.floor) reached c.in_ok-drain_floor.ensures.none_left)
 
 pub returns-clause-exact : goal.returns-clause-exact
 returns-clause-exact g c =
-    exact g.L.Law.answers c.plays_join.ensures.joined c.plays_join.ensures.given c.plays_join.ensures.released c.exact_work_drained.ensures c.args.self.now (state_of c.drain_floor.new.floor) _ _
+    exact g.L.Law.answers c.known.ensures.plays_join.joined c.known.ensures.plays_join.given c.known.ensures.plays_join.released c.known.ensures.exact_work_drained c.args.self.now (state_of c.drain_floor.new.floor) _ _
     (did g.L.Law.answers c.self.inside.floor c.drain_floor.new.floor c.drain_floor.new.drained c.drain_floor.ensures.further c.args.self.now c.self.view_is) c.in_ok-drain_floor.ensures.none_left
 
 pub returns-clause-fresh : goal.returns-clause-fresh
 returns-clause-fresh g c =
-    let order = c.reached_in_order.ensures.numbers c.args.self.now (subst (IsReached g.L.Law.answers) c.self.view_is c.self.invariant.reached) in
+    let order = c.known.ensures.reached_in_order.numbers c.args.self.now (subst (IsReached g.L.Law.answers) c.self.view_is c.self.invariant.reached) in
     let all = order.given in
     exact_fresh g.L.Law.answers c.args.self.now _ _ (λ none. omega (arith, all, none))
-    (exact g.L.Law.answers c.plays_join.ensures.joined c.plays_join.ensures.given c.plays_join.ensures.released c.exact_work_drained.ensures c.args.self.now (state_of c.drain_floor.new.floor) _ _
+    (exact g.L.Law.answers c.known.ensures.plays_join.joined c.known.ensures.plays_join.given c.known.ensures.plays_join.released c.known.ensures.exact_work_drained c.args.self.now (state_of c.drain_floor.new.floor) _ _
     (did g.L.Law.answers c.self.inside.floor c.drain_floor.new.floor c.drain_floor.new.drained c.drain_floor.ensures.further c.args.self.now c.self.view_is) c.in_ok-drain_floor.ensures.none_left)

@@ -12,5 +12,5 @@ invariant-loop-task g l = record {
   same : l.self-inside.keeper ≡ l.fn.self.keeping;
   kept : IsKept l.fn.self.hall l.self-inside.hall;
   home : IsAtHome l.self-inside.keeper l.self-inside.hall;
-  fits : first_lack (g.C.Closures.has_map l.self-inside.calls.now) (g.C.Closures.has_group l.self-inside.calls.now) (g.C.Closures.has_fold l.self-inside.calls.now) (vertices l.self-inside.keeper.plan) ≡ None;
+  fits : first_lack (g.C.Closures.stored l.self-inside.calls.now) (vertices l.self-inside.keeper.plan) ≡ None;
 }

@@ -26,6 +26,6 @@ invariant_of-self g c =
     let home = c.self.invariant.0 in
     let own : IsOwn new S = submit_all_owns g.D.Disk.view g.L.Law.answers old new c.each_is_kept.ensures S home.own c.args.group c.submit_all.result (last_epoch new.standing + 1) e.submitted e.refused in (
       own_home old new S home own,
-      ap (λ plan. first_lack (g.C.Closures.has_map c.self.inside.calls.now) (g.C.Closures.has_group c.self.inside.calls.now) (g.C.Closures.has_fold c.self.inside.calls.now) (vertices plan)) (sym own.plan ∙ home.own.plan)
+      ap (λ plan. first_lack (g.C.Closures.stored c.self.inside.calls.now) (vertices plan)) (sym own.plan ∙ home.own.plan)
           ∙ c.self.invariant.1,
     )

@@ -44,7 +44,7 @@ invariant_of-self-in-Ok g c =
     let at : c.self.inside.taken ≡ Some cut = c.in-Some.ensures.some.0 in
     let k = keeping_of device plan head checkpoint w c.self.inside.broken (Some cut) c.self.inside.collected c.self.inside.queue.items c.self.inside.watch in
     let is : IsKeeping k answers = subst (λ (t : Option Taken). IsKeeping (keeping_of device plan head checkpoint w c.self.inside.broken t c.self.inside.collected c.self.inside.queue.items c.self.inside.watch) answers) at c.self.invariant.1 in
-    let wide : head.shape.k ≤ 1048576 = subst (λ (z : Slots). z.k ≤ 1048576) c.slots_of-slots.ensures.slots c.slots_of-slots.ensures.limit in
+    let wide : head.shape.k ≤ 1048576 = subst (λ (z : Slots). z.k ≤ 1048576) c.slots_of-slots.ensures.slots c.slots_of-slots.ensures.within.limit in
     let slots : c.slots_of-slots.result ≡ slots_of head.shape = c.slots_of-slots.ensures.slots in
     let few : length cut.states ≤ head.shape.k = subst (λ (z : Slots). length cut.states ≤ z.k) slots (not_above c.slots_of-slots.result.k (length cut.states) (λ lt. let z = c.in-Ok.ensures.refused.too_many.1 lt in absurd (cc z))) in
     let of_folds : are_states (folds_of plan) cut.states ≡ true = lawful answers k is c.states_of_folds.ensures c.states_are_in_order.ensures.written c.states_are_in_order.ensures.named c.vertices-plan.ensures.lawful c.list-in_order.ensures.ordered in
@@ -89,7 +89,7 @@ invariant_of-self-in-Device g c =
     let at : c.self.inside.taken ≡ Some cut = c.in-Some.ensures.some.0 in
     let k = keeping_of device plan head checkpoint w c.self.inside.broken (Some cut) c.self.inside.collected c.self.inside.queue.items c.self.inside.watch in
     let is : IsKeeping k answers = subst (λ (t : Option Taken). IsKeeping (keeping_of device plan head checkpoint w c.self.inside.broken t c.self.inside.collected c.self.inside.queue.items c.self.inside.watch) answers) at c.self.invariant.1 in
-    let wide : head.shape.k ≤ 1048576 = subst (λ (z : Slots). z.k ≤ 1048576) c.slots_of-slots.ensures.slots c.slots_of-slots.ensures.limit in
+    let wide : head.shape.k ≤ 1048576 = subst (λ (z : Slots). z.k ≤ 1048576) c.slots_of-slots.ensures.slots c.slots_of-slots.ensures.within.limit in
     let slots : c.slots_of-slots.result ≡ slots_of head.shape = c.slots_of-slots.ensures.slots in
     let few : length cut.states ≤ head.shape.k = subst (λ (z : Slots). length cut.states ≤ z.k) slots (not_above c.slots_of-slots.result.k (length cut.states) (λ lt. let z = c.in-Err.ensures.refused.too_many.1 lt in let d = c.in-Device.is in absurd (cc (z, d)))) in
     let of_folds : are_states (folds_of plan) cut.states ≡ true = lawful answers k is c.states_of_folds.ensures c.states_are_in_order.ensures.written c.states_are_in_order.ensures.named c.vertices-plan.ensures.lawful c.list-in_order.ensures.ordered in
@@ -151,7 +151,7 @@ returns-in-Ok-clause-crash g c =
     let at : c.self.inside.taken ≡ Some cut = c.in-Some.ensures.some.0 in
     let k = keeping_of device plan head checkpoint w c.self.inside.broken (Some cut) c.self.inside.collected c.self.inside.queue.items c.self.inside.watch in
     let is : IsKeeping k answers = subst (λ (t : Option Taken). IsKeeping (keeping_of device plan head checkpoint w c.self.inside.broken t c.self.inside.collected c.self.inside.queue.items c.self.inside.watch) answers) at c.self.invariant.1 in
-    let wide : head.shape.k ≤ 1048576 = subst (λ (z : Slots). z.k ≤ 1048576) c.slots_of-slots.ensures.slots c.slots_of-slots.ensures.limit in
+    let wide : head.shape.k ≤ 1048576 = subst (λ (z : Slots). z.k ≤ 1048576) c.slots_of-slots.ensures.slots c.slots_of-slots.ensures.within.limit in
     let slots : c.slots_of-slots.result ≡ slots_of head.shape = c.slots_of-slots.ensures.slots in
     let few : length cut.states ≤ head.shape.k = subst (λ (z : Slots). length cut.states ≤ z.k) slots (not_above c.slots_of-slots.result.k (length cut.states) (λ lt. let z = c.in-Ok.ensures.refused.too_many.1 lt in absurd (cc z))) in
     let of_folds : are_states (folds_of plan) cut.states ≡ true = lawful answers k is c.states_of_folds.ensures c.states_are_in_order.ensures.written c.states_are_in_order.ensures.named c.vertices-plan.ensures.lawful c.list-in_order.ensures.ordered in
@@ -194,7 +194,7 @@ returns-in-Device-clause-crash g c =
     let at : c.self.inside.taken ≡ Some cut = c.in-Some.ensures.some.0 in
     let k = keeping_of device plan head checkpoint w c.self.inside.broken (Some cut) c.self.inside.collected c.self.inside.queue.items c.self.inside.watch in
     let is : IsKeeping k answers = subst (λ (t : Option Taken). IsKeeping (keeping_of device plan head checkpoint w c.self.inside.broken t c.self.inside.collected c.self.inside.queue.items c.self.inside.watch) answers) at c.self.invariant.1 in
-    let wide : head.shape.k ≤ 1048576 = subst (λ (z : Slots). z.k ≤ 1048576) c.slots_of-slots.ensures.slots c.slots_of-slots.ensures.limit in
+    let wide : head.shape.k ≤ 1048576 = subst (λ (z : Slots). z.k ≤ 1048576) c.slots_of-slots.ensures.slots c.slots_of-slots.ensures.within.limit in
     let slots : c.slots_of-slots.result ≡ slots_of head.shape = c.slots_of-slots.ensures.slots in
     let few : length cut.states ≤ head.shape.k = subst (λ (z : Slots). length cut.states ≤ z.k) slots (not_above c.slots_of-slots.result.k (length cut.states) (λ lt. let z = c.in-Err.ensures.refused.too_many.1 lt in let d = c.in-Device.is in absurd (cc (z, d)))) in
     let of_folds : are_states (folds_of plan) cut.states ≡ true = lawful answers k is c.states_of_folds.ensures c.states_are_in_order.ensures.written c.states_are_in_order.ensures.named c.vertices-plan.ensures.lawful c.list-in_order.ensures.ordered in

@@ -67,7 +67,7 @@ returns-clause-put g c lawful plan valid durable none =
     let cell : opened (cell_of ring (suc at.epoch)) (view new).state.bytes ≡ None =
     others r (cell_of ring (suc at.epoch)) p (view mid).state.bytes (view new).state.bytes (c.parts_are_apart.ensures.slots_cells sizes at.epoch (suc at.epoch % sizes.n)).0 put
     ∙ cell_closed sizes at.epoch (suc at.epoch % sizes.n) (view mid).state.bytes (c.parts_are_apart.ensures.ends sizes at.epoch (suc at.epoch % sizes.n) (mod-lt (suc at.epoch) c.requires.cells)) zeros in
-    let limit : sizes.k ≤ 1048576 = subst (λ (z : Slots). z.k ≤ 1048576) is c.slots_of-slots.ensures.limit in
+    let limit : sizes.k ≤ 1048576 = subst (λ (z : Slots). z.k ≤ 1048576) is c.slots_of-slots.ensures.within.limit in
     let room : sizes.k < 2 ^ 32 = omega (arith, limit) in
     let fit : AreSlotStates (folds_of plan) sizes.k at.states = record { few = c.requires.few; room = room; lawful = valid; fits = c.in_ok-write.ensures.fits.fits } in
     let last : at.last < 2 ^ 64 = omega arith in

@@ -38,4 +38,4 @@ returns-clause-put g c lawful plan states batches rising durable none =
     (first.put lawful plan states durable none))
 
 pub write_checkpoint-requires-clause-cells : goal.write_checkpoint-requires-clause-cells
-write_checkpoint-requires-clause-cells g c = subst (λ (j : Journal). 0 < j.n) c.ring_of-ring.ensures.ring c.ring_of-ring.ensures.cells
+write_checkpoint-requires-clause-cells g c = subst (λ (j : Journal). 0 < j.n) c.ring_of-ring.ensures.ring c.ring_of-ring.ensures.within.cells

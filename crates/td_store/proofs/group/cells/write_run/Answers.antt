@@ -35,7 +35,7 @@ write-requires g c =
     let long = run_long n (cell_len j.m + 1) c.cell_size.result c.args.bytes.now c.cell_size.ensures c.requires.whole in
     let room = run_room j e n c.requires.run in
     subst (λ (r : Region). r.at + length (take (n * c.cell_size.result) c.args.bytes.now) ≤ (g.D.Disk.view c.args.device.now).capacity) (sym c.cell_of.ensures.region)
-    (omega (arith, long, room, c.requires.room))
+    (omega (arith, long, room, c.requires.ring.room))
 
 pub returns-clause-crash_safe : goal.returns-clause-crash_safe
 returns-clause-crash_safe g c lawful =
