@@ -83,7 +83,7 @@ PLACES = {
     ],
     GATE: [
         "td_store/specs/group/Groups.antt: 165, 1",
-        "td_head/src/format.rt: 165, 3",
+        "td_head/src/format.rt: 165, 2",
     ],
     SHAPE: [
         "td/src/disk.rt: 1048576, 1",
@@ -119,7 +119,7 @@ PLACES = {
         "td_orders/specs/Lines.antt: 4096, 1",
         "td_orders/src/line_reader.rt: 4096, 1",
         "td_orders/src/line_reader.rt: 65536, 1",
-        "td_report/src/dumping.rt: 65536, 1",
+        "td_report/src/epoch_lines.rt: 65536, 1",
     ],
     GROUP: [
         "td_console/src/hall.rt: 65536, 1",
@@ -128,7 +128,7 @@ PLACES = {
         "td_feed/specs/Groups.antt: 1048576, 1",
     ],
     POWER: [
-        "td_orders/src/asking.rt: 32, 1",
+        "td_orders/src/source.rt: 32, 1",
         "td_orders/src/line_reader.rt: 32, 1",
     ],
 }

@@ -4,11 +4,11 @@ use crate::disk_closures::{
     put_closures, put_new_closures, read_text, remove_closures, text_of_disk,
 };
 use crate::file_cause::{make_empty, why_not_opened, why_not_read};
-use crate::reading::file_to_read_or_tell;
+use crate::lock::opened;
+use crate::read_only::file_to_read_or_tell;
 use crate::refusal::Refusal;
 use crate::streams;
 use crate::streams::Awaited;
-use crate::waiting::opened;
 use std::fs::File;
 use std::rt::Files;
 use std::sync::Wait;

@@ -2,7 +2,7 @@
 
 use crate::disk::{hold_streams, make_disk_with, plan_or_tell, remove_disk, shape_or_tell};
 use crate::disk_closures::read_text;
-use crate::reading::open_to_read_or_tell;
+use crate::read_only::open_to_read_or_tell;
 use crate::refusal::Refusal;
 use crate::streams::Awaited;
 use std::alloc::Global;

@@ -3,10 +3,10 @@ ghost use Rattle.std.specs.Prelude.{◌≡◌, ◌≢◌, IfOk, OnOk, IfErr, OnE
 ghost use Rattle.td_calls.specs.Stored.{stored_in};
 ghost use Rattle.td_c.specs.Epoch.{Advances, AdvanceRefused, EpochWritten, EpochRefused};
 
-use crate::reading::{batch_of, plan_of, states_of};
+use crate::input::{batch_of, plan_of, states_of};
+use crate::output::{put_outputs, put_states};
 use crate::refusal::Refusal;
 use crate::values::{TdCounts, TdRecord, TdState};
-use crate::writing::{put_outputs, put_states};
 use std::alloc::Global;
 use td_batch::Evaluator;
 use td_calls::{Closures, Law};

@@ -9,7 +9,7 @@ ghost use Rattle.td_c.specs.Beside.{HasPlanBeside, PlanRefusedBeside, EpochWritt
 
 use crate::advance::advance;
 use crate::changes::write_changes;
-use crate::reading::{closures_of, plan_of};
+use crate::input::{closures_of, plan_of};
 use crate::refusal::Refusal;
 use crate::values::{TdChange, TdCounts, TdRecord, TdState};
 use std::alloc::Global;

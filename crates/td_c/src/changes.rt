@@ -4,10 +4,10 @@ ghost use Rattle.td_calls.specs.Stored.{stored_in};
 ghost use Rattle.td_c.specs.Epoch.{AdvanceRefused};
 ghost use Rattle.td_c.specs.Changes.{Changes, ChangesWritten, ChangesRefused};
 
-use crate::reading::{batch_of, map_of, plan_of};
+use crate::input::{batch_of, map_of, plan_of};
+use crate::output::{put_changes, put_outputs};
 use crate::refusal::Refusal;
 use crate::values::{TdChange, TdCounts, TdRecord, TdState};
-use crate::writing::{put_changes, put_outputs};
 use std::alloc::Global;
 use std::collections::BTreeMap;
 use td_batch::{EpochChanges, Evaluator, laws};

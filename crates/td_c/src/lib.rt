@@ -14,15 +14,15 @@ ghost use Rattle.td_c.specs.Stores.{stored_catalogue};
 mod advance;
 mod beside;
 mod changes;
+mod input;
 pub mod laws;
-mod reading;
+mod output;
 mod refusal;
 mod values;
-mod writing;
 
 use crate::advance::advance;
 use crate::beside::{advance_beside, check_beside, write_changes_beside};
-use crate::reading::plan_of;
+use crate::input::plan_of;
 pub use refusal::Refusal;
 use std::alloc::Global;
 use td_catalogue::{Catalogue, Shelves};

@@ -22,18 +22,18 @@ use Rattle.td_shard.specs.declared.shard.Shard.{Shard}
 use Rattle.td_task.specs.Refusals.{refusal}
 use Rattle.td_task.specs.declared.error.TaskError.{TaskError}
 use Rattle.td_task.specs.declared.error.TaskError.TheVariants as task_errors
-use Rattle.td_core.specs.declared.hall.Floor.{Floor}
+use Rattle.td_core.specs.declared.hall.Parts.{Parts}
 use Rattle.td_core.specs.declared.drain.Drained.{Drained}
 use Rattle.td_core.specs.declared.error.HallError.{HallError}
-use Rattle.td_core.specs.Floor.{state_of, in_mailboxes, with_tasks, IsHall}
+use Rattle.td_core.specs.Parts.{state_of, in_mailboxes, with_tasks, IsHall}
 use Rattle.td_core.specs.Given.{IsUntouched}
 use Rattle.td_core.specs.Posted.{HasNoLess, IsRoomier, mails, waits}
 use Rattle.td_core.specs.Refusals.{error_of}
 use Rattle.td_core.specs.Taking.{IsSame, IsTakeRefused, HasRoomBack, IsLastTake, room_of}
 use Rattle.td_core.specs.Drained.{IsTurn, IsWhy}
 use Rattle.td_core.proofs.GiveSteps.{untouched_state, untouched_hall}
-use Rattle.td_core.proofs.PostingSteps.{roomier_same}
-use Rattle.td_core.proofs.DrainFloors.{took}
+use Rattle.td_core.proofs.PostSteps.{roomier_same}
+use Rattle.td_core.proofs.DrainParts.{took}
 
 -- MORE ROOM in one mailbox
 module _ (s t : Shard) (mail : t.mailbox.messages ≡ s.mailbox.messages) (waiting : t.waiting ≡ s.waiting) (room : s.mailbox.room ≤ t.mailbox.room) (runs : s.mailbox.runs ≤ t.mailbox.runs) where
@@ -59,22 +59,22 @@ module _ (s t : Shard) (mail : t.mailbox.messages ≡ s.mailbox.messages) (waiti
   roomier_at shards i e = record { mails = same_mails shards i e; waiting = same_waits shards i e; room = no_less shards i e }
 
 -- NOTHING BUT ROOM was changed
-module _ (floor : Floor) (shards : Vec Shard Global) (same : IsRoomier floor.shards.items shards.items) where
-  abbrev pub with_room : Floor
-  with_room = record floor { shards = shards }
+module _ (parts : Parts) (shards : Vec Shard Global) (same : IsRoomier parts.shards.items shards.items) where
+  abbrev pub with_room : Parts
+  with_room = record parts { shards = shards }
 
-  untouched : IsUntouched floor with_room
-  untouched = record { parts = refl; plan = refl; stamps = λ p. refl; shards = same }
+  untouched : IsUntouched parts with_room
+  untouched = record { fields = refl; plan = refl; stamps = λ p. refl; shards = same }
 
-  pub room_state : state_of with_room ≡ state_of floor
-  room_state = untouched_state floor with_room untouched
+  pub room_state : state_of with_room ≡ state_of parts
+  room_state = untouched_state parts with_room untouched
 
-  pub room_hall : (answers : Answers) → IsHall answers floor → IsHall answers with_room
-  room_hall answers inv = untouched_hall floor with_room untouched answers inv
+  pub room_hall : (answers : Answers) → IsHall answers parts → IsHall answers with_room
+  room_hall answers inv = untouched_hall parts with_room untouched answers inv
 
 -- nor where a take was refused
-pub same_state : (old new : Floor) → IsSame old new → state_of new ≡ state_of old
-same_state old new same = ap state_of same.parts ∙ (λ i. record (state_of old) { messages = bag_of message_cmp (in_mailboxes old.shards.items ++ with_tasks (same.out i)); out = same.out i })
+pub same_state : (old new : Parts) → IsSame old new → state_of new ≡ state_of old
+same_state old new same = ap state_of same.fields ∙ (λ i. record (state_of old) { messages = bag_of message_cmp (in_mailboxes old.shards.items ++ with_tasks (same.out i)); out = same.out i })
 
 -- ROOM stays while a task is taken and nothing has less
 room_taken : (a b : List Shard) (i : ℕ) → i < length a → map room_of b ≡ map room_of a → HoldsAt HasRoomBack a i → HoldsAt HasRoomBack b i
@@ -120,12 +120,12 @@ some_is_none S T s answer (has_none b none) e = refl
 some_is_none S T s answer (is_spent b task may all) e = refl
 some_is_none S T s answer (takes b task may more) e = absurd (cc)
 
-pub none_taken : (floor taken : Floor) (S : HallState) (s : ℕ) (task : Option Task) → state_of floor ≡ S → task ≡ None → Takes (state_of floor) s (has_taken task) (state_of taken)
+pub none_taken : (parts taken : Parts) (S : HallState) (s : ℕ) (task : Option Task) → state_of parts ≡ S → task ≡ None → Takes (state_of parts) s (has_taken task) (state_of taken)
     → (state_of taken ≡ S) × Takes S s (has_taken None) S
-none_taken floor taken S s task is e t =
-    let none : Takes (state_of floor) s (has_taken None) (state_of taken) = subst (λ o. Takes (state_of floor) s (has_taken o) (state_of taken)) e t in
+none_taken parts taken S s task is e t =
+    let none : Takes (state_of parts) s (has_taken None) (state_of taken) = subst (λ o. Takes (state_of parts) s (has_taken o) (state_of taken)) e t in
     let same : state_of taken ≡ S = some_is_none _ _ s _ none refl ∙ is in
-    (same, subst (λ U. Takes U s (has_taken None) U) is (subst (λ U. Takes (state_of floor) s (has_taken None) U) (some_is_none _ _ s _ none refl) none))
+    (same, subst (λ U. Takes U s (has_taken None) U) is (subst (λ U. Takes (state_of parts) s (has_taken None) U) (some_is_none _ _ s _ none refl) none))
 
 is_refused_spent : (S T : HallState) (s : ℕ) (answer : Answer) (r : Refusal) → S.out ≡ [] → Takes S s answer T → answer ≡ refused r → r ≡ spent
 is_refused_spent S T s answer r none (is_busy b) e = let no : false ≡ true = ap (λ out. list_any (λ t. t.shard == s) out) (sym none) ∙ b in absurd (cc)
@@ -140,18 +140,18 @@ why S s error none within (inr (r, e, t)) =
     inr (e ∙ ap error_of is, (s, within, subst (λ r. Takes S s (refused r) S) is t))
 
 -- A TAKE that answers a task: it is for a vertex of its kind
-pub of_its_kind : (floor taken : Floor) (s : ℕ) (task : Task) → Takes (state_of floor) s (has_taken (Some task)) (state_of taken) → task.kind ≡ kind_of taken.table.plan task.vertex
-of_its_kind floor taken s task t =
-    let is = took (state_of floor) (state_of taken) s task t in
+pub of_its_kind : (parts taken : Parts) (s : ℕ) (task : Task) → Takes (state_of parts) s (has_taken (Some task)) (state_of taken) → task.kind ≡ kind_of taken.table.plan task.vertex
+of_its_kind parts taken s task t =
+    let is = took (state_of parts) (state_of taken) s task t in
     is.may.kind ∙ ap (λ S. kind_of S.plan task.vertex) (sym is.after)
 
 -- and where it was given, that is a turn
-pub is_turn : (answers : Answers) (old floor taken given : Floor) (s : ℕ) (task : Task) (delivered : Drained) → state_of floor ≡ state_of old
-    → Takes (state_of floor) s (has_taken (Some task)) (state_of taken) → taken.out.items ≡ task ∷ []
+pub is_turn : (answers : Answers) (old parts taken given : Parts) (s : ℕ) (task : Task) (delivered : Drained) → state_of parts ≡ state_of old
+    → Takes (state_of parts) s (has_taken (Some task)) (state_of taken) → taken.out.items ≡ task ∷ []
     → state_of given ≡ is_given (effect answers (state_of taken) task task.content) task
     → delivered.messages ≡ records_in task.content → delivered.notes ≡ notes_in task.content
     → IsTurn answers (state_of old) s delivered (state_of given)
-is_turn answers old floor taken given s task delivered same t out is messages notes = record {
+is_turn answers old parts taken given s task delivered same t out is messages notes = record {
   task = task;
   between = state_of taken;
   takes = subst (λ S. Takes S s (has_taken (Some task)) (state_of taken)) same t;
@@ -161,9 +161,9 @@ is_turn answers old floor taken given s task delivered same t out is messages no
 }
 
 -- the take that is taken back
-pub last_take : (answers : Answers) (old floor taken left : Floor) (s : ℕ) (task : Task) → IsHall answers old → state_of floor ≡ state_of old
-    → Takes (state_of floor) s (has_taken (Some task)) (state_of taken) → IsUntouched taken left → IsLastTake answers (state_of old) s task (state_of left)
-last_take answers old floor taken left s task inv same t untouched =
+pub last_take : (answers : Answers) (old parts taken left : Parts) (s : ℕ) (task : Task) → IsHall answers old → state_of parts ≡ state_of old
+    → Takes (state_of parts) s (has_taken (Some task)) (state_of taken) → IsUntouched taken left → IsLastTake answers (state_of old) s task (state_of left)
+last_take answers old parts taken left s task inv same t untouched =
     (inv.reached, subst (λ T. Takes (state_of old) s (has_taken (Some task)) T) (sym (untouched_state taken left untouched)) (subst (λ S. Takes S s (has_taken (Some task)) (state_of taken)) same t))
 
 -- THE CALLS FIT: no vertex lacks its closure

@@ -106,7 +106,7 @@ later_in_order i (x ∷ xs) h = by (nat_lt i x.input) (later_in_order i xs h.1)
     by true rest = (still x.input xs h.0, rest)
     by false rest = rest
 
--- INPUTS that rise
+-- INPUTS that change
 abbrev pub Among : ℕ → List ℕ → Type 0
 Among n [] = ⊥
 Among n (i ∷ is) = (n ≡ i) ⊎ Among n is
@@ -149,7 +149,7 @@ in_parts [] up (x ∷ xs) h a = absurd a.0
 in_parts (i ∷ is) up xs h a =
     ap (λ l. of_input i xs ++ l) (same_later i is up.0 xs ∙ in_parts is up.1 (later i xs) (later_in_order i xs h) (among_later i is xs a)) ∙ sym (split i xs h (from_first i is up.0 xs a))
 
--- THE INPUTS OF A PLAN rise
+-- THE INPUTS OF A PLAN change
 abbrev numbers : List PlacedVertex → List ℕ
 numbers vs = map (λ p. p.vertex.number) (filter (λ p. is_input p.vertex.kind) vs)
 

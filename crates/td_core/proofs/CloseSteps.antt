@@ -9,9 +9,9 @@ use Rattle.td_machine.specs.Active.{active, stamp_of_message, stamp_of_asked, st
 use Rattle.td_machine.specs.Steps.{close_step}
 use Rattle.td_machine.specs.Steps.Event.{close}
 use Rattle.td_machine.specs.Steps.Answer.{has_closed}
-use Rattle.td_core.specs.declared.hall.Floor.{Floor}
-use Rattle.td_core.specs.Floor.{state_of, IsHall}
-use Rattle.td_core.specs.Sites.{IsSites}
+use Rattle.td_core.specs.declared.hall.Parts.{Parts}
+use Rattle.td_core.specs.Parts.{state_of, IsHall}
+use Rattle.td_core.specs.Routes.{IsRoutes}
 use Rattle.td_core.proofs.CollectSteps.{ReachedByStep}
 
 -- how often a pointstamp occurs in two lists
@@ -62,64 +62,64 @@ module _ (append : CountsAppend) (epoch : ℕ) where
       omega (arith, before, more, most, some, was, all)
 
 -- A hall that is closed takes the machine's step: its table is without the inputs
-module _ (append : CountsAppend) (floor : Floor) (closing : floor.closed ≡ false)
-    (counted : IsSameBag floor.table.stamps (active (state_of floor)))
-    (inputs : floor.inputs.items ≡ inputs_of floor.table.plan) where
+module _ (append : CountsAppend) (parts : Parts) (closing : parts.closed ≡ false)
+    (counted : IsSameBag parts.table.stamps (active (state_of parts)))
+    (inputs : parts.inputs.items ≡ inputs_of parts.table.plan) where
   abbrev pub others : List Stamp
-  others = map (stamp_of_message floor.table.plan) (state_of floor).messages ++ map stamp_of_asked (state_of floor).asked
+  others = map (stamp_of_message parts.table.plan) (state_of parts).messages ++ map stamp_of_asked (state_of parts).asked
 
   -- what is active beside the inputs
-  pub parted : (p : Stamp) → occurrences p (active (state_of floor)) ≡ occurrences p others + occurrences p (map (input_stamp floor.next) floor.inputs.items)
+  pub parted : (p : Stamp) → occurrences p (active (state_of parts)) ≡ occurrences p others + occurrences p (map (input_stamp parts.next) parts.inputs.items)
   parted p =
-      let on_edges = map (stamp_of_message floor.table.plan) (state_of floor).messages in
-      let wanted = map stamp_of_asked (state_of floor).asked in
-      let standing = ap (λ b. occurrences p (stamps_of_inputs floor.table.plan floor.next b)) closing ∙ sym (ap (λ l. occurrences p (map (input_stamp floor.next) l)) inputs) in
-      let one = append p on_edges (wanted ++ stamps_of_inputs floor.table.plan floor.next floor.closed) in
-      let two = append p wanted (stamps_of_inputs floor.table.plan floor.next floor.closed) in
+      let on_edges = map (stamp_of_message parts.table.plan) (state_of parts).messages in
+      let wanted = map stamp_of_asked (state_of parts).asked in
+      let standing = ap (λ b. occurrences p (stamps_of_inputs parts.table.plan parts.next b)) closing ∙ sym (ap (λ l. occurrences p (map (input_stamp parts.next) l)) inputs) in
+      let one = append p on_edges (wanted ++ stamps_of_inputs parts.table.plan parts.next parts.closed) in
+      let two = append p wanted (stamps_of_inputs parts.table.plan parts.next parts.closed) in
       let both = append p on_edges wanted in
       omega (arith, standing, one, two, both)
 
   -- the inputs are there to be taken off
-  pub enough : (p : Stamp) → occurrences p (map (input_stamp floor.next) floor.inputs.items) ≤ occurrences p floor.table.stamps
+  pub enough : (p : Stamp) → occurrences p (map (input_stamp parts.next) parts.inputs.items) ≤ occurrences p parts.table.stamps
   enough p =
       let two = parted p in
       let are = counted p in
       omega (arith, two, are)
 
   -- with a table that is without them
-  module _ (t : Active) (plan : t.plan ≡ floor.table.plan) (off : IsSameBag floor.table.stamps (map (input_stamp floor.next) floor.inputs.items ++ t.stamps)) where
-    abbrev pub closed_floor : Floor
-    closed_floor = record floor { table = t; closed = true }
+  module _ (t : Active) (plan : t.plan ≡ parts.table.plan) (off : IsSameBag parts.table.stamps (map (input_stamp parts.next) parts.inputs.items ++ t.stamps)) where
+    abbrev pub closed_parts : Parts
+    closed_parts = record parts { table = t; closed = true }
 
-    pub stepped : close_step (state_of floor) ≡ (has_closed, state_of closed_floor)
-    stepped = λ i. (has_closed, record (state_of floor) { plan = sym plan i; closed = true })
+    pub stepped : close_step (state_of parts) ≡ (has_closed, state_of closed_parts)
+    stepped = λ i. (has_closed, record (state_of parts) { plan = sym plan i; closed = true })
 
-    still_counted : IsSameBag t.stamps (active (record (state_of floor) { closed = true }))
+    still_counted : IsSameBag t.stamps (active (record (state_of parts) { closed = true }))
     still_counted p =
         let are = counted p in
         let two = parted p in
-        let gone = off p ∙ append p (map (input_stamp floor.next) floor.inputs.items) t.stamps in
-        let on_edges = map (stamp_of_message floor.table.plan) (state_of floor).messages in
-        let wanted = map stamp_of_asked (state_of floor).asked in
+        let gone = off p ∙ append p (map (input_stamp parts.next) parts.inputs.items) t.stamps in
+        let on_edges = map (stamp_of_message parts.table.plan) (state_of parts).messages in
+        let wanted = map stamp_of_asked (state_of parts).asked in
         let both = append p on_edges wanted in
         let end = append p on_edges (wanted ++ []) in
         let none = append p wanted [] in
         let zero : occurrences p [] ≡ 0 = refl in
         omega (arith, are, two, gone, both, end, none, zero)
 
-    pub counted_then : IsSameBag t.stamps (active (state_of closed_floor))
-    counted_then = subst (λ S. IsSameBag t.stamps (active S)) (λ i. record (state_of floor) { plan = sym plan i; closed = true }) still_counted
+    pub counted_then : IsSameBag t.stamps (active (state_of closed_parts))
+    counted_then = subst (λ S. IsSameBag t.stamps (active S)) (λ i. record (state_of parts) { plan = sym plan i; closed = true }) still_counted
 
-module _ (answers : Answers) (append : CountsAppend) (steps : ReachedByStep answers) (floor : Floor) (closing : floor.closed ≡ false) (t : Active) (plan : t.plan ≡ floor.table.plan)
-    (inv : IsHall answers floor)
-    (off : IsSameBag floor.table.stamps (map (input_stamp floor.next) floor.inputs.items ++ t.stamps)) where
-  pub closes : IsHall answers (record floor { table = t; closed = true })
+module _ (answers : Answers) (append : CountsAppend) (steps : ReachedByStep answers) (parts : Parts) (closing : parts.closed ≡ false) (t : Active) (plan : t.plan ≡ parts.table.plan)
+    (inv : IsHall answers parts)
+    (off : IsSameBag parts.table.stamps (map (input_stamp parts.next) parts.inputs.items ++ t.stamps)) where
+  pub closes : IsHall answers (record parts { table = t; closed = true })
   closes = record {
-    reached = steps (state_of floor) (state_of (record floor { table = t; closed = true })) close has_closed inv.reached (stepped append floor closing inv.counted inv.inputs t plan off);
-    counted = counted_then append floor closing inv.counted inv.inputs t plan off;
+    reached = steps (state_of parts) (state_of (record parts { table = t; closed = true })) close has_closed inv.reached (stepped append parts closing inv.counted inv.inputs t plan off);
+    counted = counted_then append parts closing inv.counted inv.inputs t plan off;
     inputs = inv.inputs ∙ ap inputs_of (sym plan);
     shards = inv.shards;
     few = inv.few;
     next = inv.next;
-    sites = subst (λ p. IsSites p floor.sites) (sym plan) inv.sites;
+    routes = subst (λ p. IsRoutes p parts.routes) (sym plan) inv.routes;
   }

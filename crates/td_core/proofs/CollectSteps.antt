@@ -12,9 +12,9 @@ use Rattle.td_machine.specs.Steps.{Event, Answer, Step, collect_step, collected_
 use Rattle.td_machine.specs.Steps.Event.{collect}
 use Rattle.td_machine.specs.Steps.Answer.{has_collected}
 use Rattle.td_machine.specs.Reached.{IsReached}
-use Rattle.td_core.specs.declared.hall.Floor.{Floor}
+use Rattle.td_core.specs.declared.hall.Parts.{Parts}
 use Rattle.td_core.specs.declared.error.HallError.{HallError}
-use Rattle.td_core.specs.Floor.{state_of, IsHall}
+use Rattle.td_core.specs.Parts.{state_of, IsHall}
 use Rattle.td_core.specs.Came.{out_of, passed_since}
 use Rattle.td_core.specs.Collected.{without_passed}
 
@@ -26,30 +26,30 @@ PassedAlike = (xs ys : List Stamp) (epoch : ℕ) → IsSameBag xs ys → has_pas
 abbrev pub ReachedByStep : Answers → Type 0
 ReachedByStep answers = (S T : HallState) (event : Event) (answer : Answer) → IsReached answers S → Step answers S event answer T → IsReached answers T
 
-module _ (alike : PassedAlike) (floor : Floor) (counted : IsSameBag floor.table.stamps (active (state_of floor))) where
-  pub passed_here : passed_since floor.table.stamps floor.collected floor.next ≡ to_collect (state_of floor)
-  passed_here = λ i. filter (λ e. alike floor.table.stamps (active (state_of floor)) e counted i) (numbers_from (floor.collected + 1) (floor.next - (floor.collected + 1)))
+module _ (alike : PassedAlike) (parts : Parts) (counted : IsSameBag parts.table.stamps (active (state_of parts))) where
+  pub passed_here : passed_since parts.table.stamps parts.collected parts.next ≡ to_collect (state_of parts)
+  passed_here = λ i. filter (λ e. alike parts.table.stamps (active (state_of parts)) e counted i) (numbers_from (parts.collected + 1) (parts.next - (parts.collected + 1)))
 
-  pub stepped : collect_step (state_of floor) ≡ (has_collected (map (out_of floor.outputs) (passed_since floor.table.stamps floor.collected floor.next)), state_of (without_passed floor))
-  stepped = sym (λ i. (has_collected (map (out_of floor.outputs) (passed_here i)), collected_to (state_of floor) (floor.collected + length (passed_here i))))
+  pub stepped : collect_step (state_of parts) ≡ (has_collected (map (out_of parts.outputs) (passed_since parts.table.stamps parts.collected parts.next)), state_of (without_passed parts))
+  stepped = sym (λ i. (has_collected (map (out_of parts.outputs) (passed_here i)), collected_to (state_of parts) (parts.collected + length (passed_here i))))
 
-module _ (answers : Answers) (alike : PassedAlike) (steps : ReachedByStep answers) (floor new : Floor) (inv : IsHall answers floor) where
-  kept : IsHall answers (without_passed floor)
+module _ (answers : Answers) (alike : PassedAlike) (steps : ReachedByStep answers) (parts new : Parts) (inv : IsHall answers parts) where
+  kept : IsHall answers (without_passed parts)
   kept = record {
-    reached = steps (state_of floor) (state_of (without_passed floor)) collect _ inv.reached (stepped alike floor inv.counted);
+    reached = steps (state_of parts) (state_of (without_passed parts)) collect _ inv.reached (stepped alike parts inv.counted);
     counted = inv.counted;
     inputs = inv.inputs;
     shards = inv.shards;
     few = inv.few;
     next = inv.next;
-    sites = inv.sites;
+    routes = inv.routes;
   }
 
-  pub still_hall : (r : Result (Vec EpochOut Global) HallError) → OnOk r (new ≡ without_passed floor) → OnErr r (new ≡ floor) → IsHall answers new
+  pub still_hall : (r : Result (Vec EpochOut Global) HallError) → OnOk r (new ≡ without_passed parts) → OnErr r (new ≡ parts) → IsHall answers new
   still_hall (Ok outs) e f = subst (IsHall answers) (sym e) kept
   still_hall (Err why) e f = subst (IsHall answers) (sym f) inv
 
-  pub answered : (r : Result (Vec EpochOut Global) HallError) → IfOk r (λ outs. outs.items ≡ map (out_of floor.outputs) (passed_since floor.table.stamps floor.collected floor.next))
-      → OnOk r (new ≡ without_passed floor) → (S : HallState) → state_of floor ≡ S → IfOk r (λ outs. collect_step S ≡ (has_collected outs.items, state_of new))
-  answered (Ok outs) e f S is = ap collect_step (sym is) ∙ (stepped alike floor inv.counted ∙ sym (λ i. (has_collected (e i), state_of (f i))))
+  pub answered : (r : Result (Vec EpochOut Global) HallError) → IfOk r (λ outs. outs.items ≡ map (out_of parts.outputs) (passed_since parts.table.stamps parts.collected parts.next))
+      → OnOk r (new ≡ without_passed parts) → (S : HallState) → state_of parts ≡ S → IfOk r (λ outs. collect_step S ≡ (has_collected outs.items, state_of new))
+  answered (Ok outs) e f S is = ap collect_step (sym is) ∙ (stepped alike parts inv.counted ∙ sym (λ i. (has_collected (e i), state_of (f i))))
   answered (Err why) e f S is = tt

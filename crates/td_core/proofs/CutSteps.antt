@@ -7,11 +7,11 @@ use Rattle.td_machine.specs.Active as machine
 use Rattle.td_machine.specs.Steps.{Event, Answer, Step, cut_by, cut_at_by, cut_to}
 use Rattle.td_machine.specs.Steps.Answer.{has_cut, refused}
 use Rattle.td_machine.specs.Steps.Refusal.{not_passed}
-use Rattle.td_core.specs.declared.hall.Floor.{Floor}
+use Rattle.td_core.specs.declared.hall.Parts.{Parts}
 use Rattle.td_core.specs.declared.cut.Cut.{Cut}
 use Rattle.td_core.specs.declared.error.HallError.{HallError}
 use Rattle.td_core.specs.declared.error.HallError.TheVariants.{Memory}
-use Rattle.td_core.specs.Floor.{state_of, IsHall}
+use Rattle.td_core.specs.Parts.{state_of, IsHall}
 use Rattle.td_core.specs.Cuts.{IsCutAt, states_after}
 use Rattle.td_core.specs.Refusals.{IsRefused}
 use Rattle.td_core.proofs.CollectSteps.{ReachedByStep}
@@ -30,46 +30,46 @@ drop_suc (suc n) (x ∷ xs) = drop_suc n xs
 pub drop_next : {X : Type 0} (n : ℕ) (xs : List X) → drop 1 (drop n xs) ≡ drop (n + 1) xs
 drop_next n xs = let one : suc n ≡ n + 1 = omega arith in drop_suc n xs ∙ ap (λ m. drop m xs) one
 
-module _ (floor new : Floor) (epoch : ℕ) where
+module _ (parts new : Parts) (epoch : ℕ) where
   -- the parts of a hall that was cut
-  abbrev pub then : Floor
-  then = record floor {
+  abbrev pub then : Parts
+  then = record parts {
     base = epoch;
-    states = states_after floor epoch;
+    states = states_after parts epoch;
     batches = new.batches;
-    seen = filter (λ x. nat_lt epoch x.time.epoch) floor.seen;
-    versions = filter (λ k. nat_lt epoch k.epoch) floor.versions;
+    seen = filter (λ x. nat_lt epoch x.time.epoch) parts.seen;
+    versions = filter (λ k. nat_lt epoch k.epoch) parts.versions;
   }
 
-  state_then : IsCutAt epoch floor new → state_of then ≡ cut_to (state_of floor) epoch
+  state_then : IsCutAt epoch parts new → state_of then ≡ cut_to (state_of parts) epoch
   state_then is = λ i. record (state_of then) { batches = is.batches i }
 
   -- the answer of the step that cut it
-  pub cut_answered : (step : Answer × HallState) → step ≡ (has_cut epoch (states_after floor epoch), cut_to (state_of floor) epoch) → (r : Result Cut HallError)
-      → IfOk r (λ made. made.epoch ≡ epoch) → IfOk r (λ made. made.states ≡ states_after floor epoch) → OnOk r (IsCutAt epoch floor new)
+  pub cut_answered : (step : Answer × HallState) → step ≡ (has_cut epoch (states_after parts epoch), cut_to (state_of parts) epoch) → (r : Result Cut HallError)
+      → IfOk r (λ made. made.epoch ≡ epoch) → IfOk r (λ made. made.states ≡ states_after parts epoch) → OnOk r (IsCutAt epoch parts new)
       → IfOk r (λ made. step ≡ (has_cut made.epoch made.states, state_of new))
-  cut_answered step here (Ok made) e s is = here ∙ sym (λ i. (has_cut (e i) (s i), (ap state_of is.parts ∙ state_then is) i))
+  cut_answered step here (Ok made) e s is = here ∙ sym (λ i. (has_cut (e i) (s i), (ap state_of is.fields ∙ state_then is) i))
   cut_answered step here (Err why) e s is = tt
 
   pub cut_refused : (step : Answer × HallState) (S : HallState) (r : Result Cut HallError) → IfErr r (λ e. e ≡ Memory) → IfErr r (IsRefused step S)
   cut_refused step S (Ok made) m = tt
   cut_refused step S (Err why) m = inl m
 
-  module _ (answers : Answers) (steps : ReachedByStep answers) (inv : IsHall answers floor) (event : Event) where
-    still : Step answers (state_of floor) event (has_cut epoch (states_after floor epoch)) (cut_to (state_of floor) epoch) → IsCutAt epoch floor new → IsHall answers then
+  module _ (answers : Answers) (steps : ReachedByStep answers) (inv : IsHall answers parts) (event : Event) where
+    still : Step answers (state_of parts) event (has_cut epoch (states_after parts epoch)) (cut_to (state_of parts) epoch) → IsCutAt epoch parts new → IsHall answers then
     still step is = record {
-      reached = steps (state_of floor) (state_of then) event _ inv.reached (subst (Step answers (state_of floor) event (has_cut epoch (states_after floor epoch))) (sym (state_then is)) step);
+      reached = steps (state_of parts) (state_of then) event _ inv.reached (subst (Step answers (state_of parts) event (has_cut epoch (states_after parts epoch))) (sym (state_then is)) step);
       counted = inv.counted;
       inputs = inv.inputs;
       shards = inv.shards;
       few = inv.few;
       next = inv.next;
-      sites = inv.sites;
+      routes = inv.routes;
     }
 
-    pub cut_hall : Step answers (state_of floor) event (has_cut epoch (states_after floor epoch)) (cut_to (state_of floor) epoch) → (r : Result Cut HallError)
-        → OnOk r (IsCutAt epoch floor new) → OnErr r (new ≡ floor) → IsHall answers new
-    cut_hall step (Ok made) is same = subst (IsHall answers) (sym is.parts) (still step is)
+    pub cut_hall : Step answers (state_of parts) event (has_cut epoch (states_after parts epoch)) (cut_to (state_of parts) epoch) → (r : Result Cut HallError)
+        → OnOk r (IsCutAt epoch parts new) → OnErr r (new ≡ parts) → IsHall answers new
+    cut_hall step (Ok made) is same = subst (IsHall answers) (sym is.fields) (still step is)
     cut_hall step (Err why) is same = subst (IsHall answers) (sym same) inv
 
 -- the steps

@@ -31,15 +31,15 @@ use Rattle.td_machine.specs.ByEdge.{OutputsAtOnce, AsksOnce}
 use Rattle.td_machine.specs.InOrder.{TasksInOrder, NumbersInOrder, StillThere}
 use Rattle.td_machine.specs.Moves.{StampsMove, Moves, come_given, gone_given, stamps_of}
 use Rattle.td_machine.specs.Reached.{IsReached}
-use Rattle.td_core.specs.declared.hall.Floor.{Floor}
-use Rattle.td_core.specs.Floor.{state_of, IsHall, taken_up, with_tasks, in_mailboxes, waiting_in, asked_in}
-use Rattle.td_core.specs.Sites.{IsSites}
+use Rattle.td_core.specs.declared.hall.Parts.{Parts}
+use Rattle.td_core.specs.Parts.{state_of, IsHall, taken_up, with_tasks, in_mailboxes, waiting_in, asked_in}
+use Rattle.td_core.specs.Routes.{IsRoutes}
 use Rattle.td_core.specs.Posted.{waits}
 use Rattle.td_core.specs.Given.{IsEnded}
 use Rattle.td_core.specs.Delivered.{IsDelivered, added_by, waiting_with}
 use Rattle.td_core.proofs.CollectSteps.{ReachedByStep}
 use Rattle.td_core.proofs.CloseSteps.{CountsAppend}
-use Rattle.td_core.proofs.PostingSteps.{mails_bag}
+use Rattle.td_core.proofs.PostSteps.{mails_bag}
 use Rattle.td_core.proofs.OutTasks.{of_one, others, parted}
 use Rattle.td_core.proofs.Waits.{waiting_all}
 use Rattle.td_core.proofs.WaitsAsked.{asks}
@@ -77,7 +77,7 @@ buffered_by answers seen Feedback v port t recs = refl
 buffered_by answers seen Leave v port t recs = refl
 buffered_by answers seen Output v port t recs = refl
 
-module _ (answers : Answers) (laws : DeliverLaws answers) (old mid : Floor) (task : Task) (port : ℕ) (recs : List Rec)
+module _ (answers : Answers) (laws : DeliverLaws answers) (old mid : Parts) (task : Task) (port : ℕ) (recs : List Rec)
     (content : task.content ≡ messages port recs) (inv : IsHall answers old) (out : Contains old.out.items task)
     (delivered : IsDelivered answers task port recs old mid) where
   abbrev S : HallState
@@ -177,24 +177,24 @@ module _ (answers : Answers) (laws : DeliverLaws answers) (old mid : Floor) (tas
       ∙ ap (λ l. occurrences p l + occurrences p (active after)) (sym gone_is))))
 
   pub enough : (p : Stamp) → occurrences p (gone_given (state_of mid) task task.content) ≤ occurrences p mid.table.stamps
-  enough p = let parts = both p in omega (arith, parts)
+  enough p = let fields = both p in omega (arith, fields)
 
-  module _ (end : Floor) (ended : IsEnded task mid end) where
-    abbrev final : Floor
+  module _ (end : Parts) (ended : IsEnded task mid end) where
+    abbrev final : Parts
     final = record old { table = end.table; shards = mid.shards; seen = mid.seen; outputs = mid.outputs; out = end.out; given = old.given + 1 }
 
     end_is : end ≡ final
     end_is =
-        ended.parts ∙ (λ i. record (delivered.parts i) { table = end.table; shards = mid.shards; seen = mid.seen; outputs = mid.outputs; out = end.out; given = (delivered.parts i).given + 1 })
+        ended.fields ∙ (λ i. record (delivered.fields i) { table = end.table; shards = mid.shards; seen = mid.seen; outputs = mid.outputs; out = end.out; given = (delivered.fields i).given + 1 })
 
     left_out : end.out.items ≡ others task old.out.items
-    left_out = ended.out ∙ ap (λ (f : Floor). others task f.out.items) delivered.parts
+    left_out = ended.out ∙ ap (λ (f : Parts). others task f.out.items) delivered.fields
 
     seen_is : mid.seen ≡ join stamped_cmp (stamped v t added.seen) old.seen
-    seen_is = ap (λ (f : Floor). f.seen) delivered.parts
+    seen_is = ap (λ (f : Parts). f.seen) delivered.fields
 
     outputs_is : mid.outputs ≡ join output_at_cmp (flat_map (comes_out task.kind) (coming v port t recs)) old.outputs
-    outputs_is = ap (λ (f : Floor). f.outputs) delivered.parts ∙ ap (λ l. join output_at_cmp l old.outputs) (sym (laws.outputs task.kind v port t recs))
+    outputs_is = ap (λ (f : Parts). f.outputs) delivered.fields ∙ ap (λ l. join output_at_cmp l old.outputs) (sym (laws.outputs task.kind v port t recs))
 
     plan_is : end.table.plan ≡ old.table.plan
     plan_is = ended.plan ∙ delivered.plan
@@ -221,9 +221,9 @@ module _ (answers : Answers) (laws : DeliverLaws answers) (old mid : Floor) (tas
 
     still_counted : IsSameBag end.table.stamps (active after)
     still_counted p =
-        let parts = both p in
+        let fields = both p in
         let off = ended.stamps p ∙ laws.append p (gone_given (state_of mid) task task.content) end.table.stamps in
-        omega (arith, parts, off)
+        omega (arith, fields, off)
 
     own_items : AllByRecursion (λ a. shard_of_key (length old.shards.items) a.key ≡ task.shard) (more task port recs)
     own_items = by recs still.2
@@ -243,7 +243,7 @@ module _ (answers : Answers) (laws : DeliverLaws answers) (old mid : Floor) (tas
     final_hall same = record {
       reached = subst (IsReached answers) (sym stepped ∙ same) (laws.step S after (give task) has_given inv.reached (gives out));
       counted = subst (λ T. IsSameBag end.table.stamps (active T)) (sym stepped ∙ same) still_counted;
-      sites = subst (λ plan. IsSites plan old.sites) (sym plan_is) inv.sites;
+      routes = subst (λ plan. IsRoutes plan old.routes) (sym plan_is) inv.routes;
       inputs = inv.inputs ∙ ap inputs_of (sym plan_is);
       shards = still_shards (posts old.table.plan (stamped v t added.sent)) old.shards.items mid.shards.items delivered.mails same_many inv.shards still_waits;
       few = subst (λ n. n ≤ 16) (sym same_many) inv.few;

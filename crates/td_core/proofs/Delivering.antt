@@ -27,12 +27,12 @@ use Rattle.td_machine.specs.Sends.{TasksOfPlan, TurnsOfPlan, CanTurn}
 use Rattle.td_machine.specs.Moves.{come_given, newly_asked, stamps_of}
 use Rattle.td_shard.specs.Asked.{AskedList, items_at, with_items}
 use Rattle.td_shard.specs.declared.shard.Shard.{Shard}
-use Rattle.td_core.specs.declared.hall.Floor.{Floor}
-use Rattle.td_core.specs.Floor.{state_of, IsHall, asked_in, asked_of_shard}
+use Rattle.td_core.specs.declared.hall.Parts.{Parts}
+use Rattle.td_core.specs.Parts.{state_of, IsHall, asked_in, asked_of_shard}
 use Rattle.td_core.specs.Posted.{mails_with, waits}
 use Rattle.td_core.specs.Delivered.{IsDelivered, IsSent, IsNoted, CanSend, added_by, waiting_with, waiting_at_shard, asked_now}
 use Rattle.td_core.proofs.CloseSteps.{CountsAppend}
-use Rattle.td_core.proofs.PostingSteps.{none_posted}
+use Rattle.td_core.proofs.PostSteps.{none_posted}
 use Rattle.td_core.proofs.OutTasks.{of_one}
 use Rattle.td_core.proofs.WaitsAsked.{asks, is_in, in_two, in_set, asked_here, not_elsewhere}
 use Rattle.td_core.proofs.WaitsAll.{asked_all, asked_by_lists, then_waits, same_waits, past_waits, elsewhere, in_its_own, more}
@@ -60,7 +60,7 @@ module _ (s v : ℕ) (t : Timestamp) where
       in_two (asks s v t) (map (asked_of_shard k) w) (asked_all (k + 1) ws)
       ∙ (ap (λ b. b || is_in (asks s v t) (asked_all (k + 1) ws)) (not_elsewhere s v t k (λ f. absurd (omega (arith, e, f))) w) ∙ by_its_list (k + 1) i ws (omega (arith, e)))
 
-  pub is_asked_there : SetLaws notification_cmp → (h : Floor) → is_asked (state_of h) s v t ≡ is_some (items_at (waiting_at_shard s h) v t)
+  pub is_asked_there : SetLaws notification_cmp → (h : Parts) → is_asked (state_of h) s v t ≡ is_some (items_at (waiting_at_shard s h) v t)
   is_asked_there laws h =
       in_set laws (asks s v t) (flat_map asked_in (enumerate_from 0 h.shards.items))
       ∙ (ap (is_in (asks s v t)) (asked_by_lists 0 h.shards.items) ∙ by_its_list 0 s (waits h.shards.items) (omega arith))
@@ -76,7 +76,7 @@ module _ (task : Task) (port : ℕ) (recs : List Rec) (noted : is_notified task.
       ap (λ w. w ∷ set (waits ss) i (with_items (get_or (waits ss) i []) task.vertex task.time (more task port recs))) (sym (elsewhere task port recs k (λ f. absurd (omega (arith, e, f))) s))
       ∙ ap (λ l. waiting_with task port recs (k, s) ∷ l) (in_one (k + 1) i ss (omega (arith, e)) (omega (arith, l)))
 
-module _ (answers : Answers) (append : CountsAppend) (task : Task) (port : ℕ) (recs : List Rec) (old new : Floor) where
+module _ (answers : Answers) (append : CountsAppend) (task : Task) (port : ℕ) (recs : List Rec) (old new : Parts) where
   abbrev v : ℕ
   v = task.vertex
 
@@ -104,7 +104,7 @@ module _ (answers : Answers) (append : CountsAppend) (task : Task) (port : ℕ) 
       → added.sent ≡ sent → join stamped_cmp (stamped v t added.seen) old.seen ≡ seen → join output_at_cmp (comes_out_at_once task.kind v t recs) old.outputs ≡ outputs
       → IsDelivered answers task port recs old new
   sent_delivered by_edge plain sent seen outputs is sent_is seen_is outputs_is = record {
-    parts = is.parts ∙ sym (λ i. record old { table = new.table; shards = new.shards; seen = seen_is i; outputs = outputs_is i });
+    fields = is.fields ∙ sym (λ i. record old { table = new.table; shards = new.shards; seen = seen_is i; outputs = outputs_is i });
     plan = is.plan;
     stamps = λ p.
         let none : newly_asked S task ≡ [] = ap (λ b. elim (b && not (is_asked S task.shard v t)) [ true ↦ asked_at S task.shard v t ∷ [] | false ↦ [] ]) plain in
@@ -131,7 +131,7 @@ module _ (answers : Answers) (append : CountsAppend) (task : Task) (port : ℕ) 
       → added.sent ≡ [] → added.seen ≡ [] → comes_out_at_once task.kind v t recs ≡ []
       → IsDelivered answers task port recs old new
   kept_delivered sets noted within is sent_is seen_is outputs_is = record {
-    parts = is.parts ∙ sym (λ i. record old {
+    fields = is.fields ∙ sym (λ i. record old {
       table = new.table;
       shards = new.shards;
       seen = join stamped_cmp (stamped v t (seen_is i)) old.seen;
@@ -174,9 +174,9 @@ module _ (answers : Answers) (append : CountsAppend) (task : Task) (port : ℕ) 
       kept_delivered sets (ap is_notified e) within is (ap (λ k. (added_as k).sent) e) (ap (λ k. (added_as k).seen) e) (ap (λ k. comes_out_at_once k v t recs) e)
 
 -- NOTHING IS SENT
-pub nothing_sent : (old : Floor) (v : ℕ) (t : Timestamp) → IsSent v t [] old.seen old.outputs old old
+pub nothing_sent : (old : Parts) (v : ℕ) (t : Timestamp) → IsSent v t [] old.seen old.outputs old old
 nothing_sent old v t = record {
-  parts = refl;
+  fields = refl;
   plan = refl;
   stamps = λ p. ap (λ l. occurrences p (l ++ old.table.stamps)) (sym (on_none (times_from old.table.plan v t)));
   mails = sym (none_posted (length old.shards.items) 0 old.shards.items);
@@ -192,12 +192,12 @@ nothing_sent old v t = record {
     on_none (later ∷ times) = ap (λ l. l ++ flat_map (λ u. flat_map (λ e. replicate 0 (stamp_on old.table.plan u e)) (edges_from old.table.plan v)) times) (of_none later (edges_from old.table.plan v)) ∙ on_none times
 
 -- WHAT IS KNOWN OF A TASK that is out, of a vertex and a time
-module _ (answers : Answers) (h : Floor) (task : Task) (inv : IsHall answers h) (out : Contains h.out.items task) (v : ℕ) (t : Timestamp) (of_vertex : v ≡ task.vertex) (of_time : t ≡ task.time) where
+module _ (answers : Answers) (h : Parts) (task : Task) (inv : IsHall answers h) (out : Contains h.out.items task) (v : ℕ) (t : Timestamp) (of_vertex : v ≡ task.vertex) (of_time : t ≡ task.time) where
   pub can_send : ((S : HallState) → IsReached answers S → NumbersInOrder S) → TasksOfPlan answers → TurnsOfPlan → CanSend v t h
   can_send numbers sends turns =
       let known = sends (state_of h) task inv.reached out in
       subst (λ (p : ℕ × Timestamp). CanSend p.0 p.1 h) (sym (λ i. (of_vertex i, of_time i))) (record {
-        sites = inv.sites;
+        routes = inv.routes;
         some = (numbers (state_of h) inv.reached).workers;
         few = inv.few;
         enters = λ e. subst (λ k. CanTurn k (bound_of h.table.plan task.vertex) task.time) e (turns h.table.plan task.vertex task.time (numbers (state_of h) inv.reached).plan known.own);
@@ -214,7 +214,7 @@ module _ (answers : Answers) (h : Floor) (task : Task) (inv : IsHall answers h) 
       ap (λ w. sending_times (kind_of h.table.plan w) (bound_of h.table.plan v) t) of_vertex ∙ (ap (λ k. sending_times k (bound_of h.table.plan v) t) (sym is ∙ e) ∙ plain (bound_of h.table.plan v))
 
 -- and of its records
-module _ (answers : Answers) (h : Floor) (task : Task) (port : ℕ) (recs : List Rec) (inv : IsHall answers h) (out : Contains h.out.items task) (content : task.content ≡ messages port recs)
+module _ (answers : Answers) (h : Parts) (task : Task) (port : ℕ) (recs : List Rec) (inv : IsHall answers h) (out : Contains h.out.items task) (content : task.content ≡ messages port recs)
     (tasks : (S : HallState) → IsReached answers S → TasksInOrder S) (numbers : (S : HallState) → IsReached answers S → NumbersInOrder S) where
   still : IsContent (state_of h) task.shard task.vertex task.time (messages port recs)
   still = subst (IsContent (state_of h) task.shard task.vertex task.time) content (of_one (StillThere (state_of h)) h.out.items task (tasks (state_of h) inv.reached).there out).2

@@ -22,10 +22,10 @@ use Rattle.td_shard.specs.Asked.{items_at}
 use Rattle.td_shard.specs.Messages.{IsBeside, task_at, left_at}
 use Rattle.td_shard.specs.ProvedOrders.{time_total}
 use Rattle.td_core.specs.declared.error.HallError.{HallError}
-use Rattle.td_core.specs.declared.hall.Floor.{Floor}
+use Rattle.td_core.specs.declared.hall.Parts.{Parts}
 use Rattle.td_core.specs.declared.take.Candidate.{Candidate}
 use Rattle.td_core.specs.declared.take.Candidate.TheVariants as candidates
-use Rattle.td_core.specs.Floor.{state_of, IsHall, empty_shard, in_mailboxes, with_tasks}
+use Rattle.td_core.specs.Parts.{state_of, IsHall, empty_shard, in_mailboxes, with_tasks}
 use Rattle.td_core.specs.Posted.{mails}
 use Rattle.td_core.specs.Picks.{IsFullOf, IsFull}
 use Rattle.td_core.specs.Taking.{IsPicked, IsTaskFor, IsPickTaken}
@@ -107,9 +107,9 @@ module _ (v port : ℕ) (t : Timestamp) where
   -- what passes is beside one that is on it
   is_on : IsAntisymmetric time_cmp → (c d : Message) → c.vertex ≡ v → c.port ≡ port → c.time ≡ t → on d ≡ true → IsBeside c d
   is_on apart c d ev ep et e =
-      let parts = both_true (d.port == port) (is_there v t d.vertex d.time) e in
-      let place = both_true (d.vertex == v) (is_eq (time_cmp d.time t)) parts.1 in
-      (eqb-true d.vertex v place.0 ∙ sym ev, eqb-true d.port port parts.0 ∙ sym ep, apart d.time t (tie (time_cmp d.time t) place.1) ∙ sym et)
+      let fields = both_true (d.port == port) (is_there v t d.vertex d.time) e in
+      let place = both_true (d.vertex == v) (is_eq (time_cmp d.time t)) fields.1 in
+      (eqb-true d.vertex v place.0 ∙ sym ev, eqb-true d.port port fields.0 ∙ sym ep, apart d.time t (tie (time_cmp d.time t) place.1) ∙ sym et)
 
   none_on : IsAntisymmetric time_cmp → (c : Message) → c.vertex ≡ v → c.port ≡ port → c.time ≡ t → (xs : List Message) → AllByRecursion (λ d. IsBeside c d → ⊥) xs → length (filter on xs) ≡ 0
   none_on apart c ev ep et [] h = refl
@@ -159,30 +159,30 @@ module _ (parted : Parted) (some : HaveSome) (few : AreFew) (beside : AreBeside)
           omega (arith, long, mine, all, both, most, left)
 
 -- A HALL from which a task is taken
-module _ (answers : Answers) (floor : Floor) (inv : IsHall answers floor) (bags : BagLaws message_cmp) (sets : SetLaws notification_cmp) (apart : IsAntisymmetric time_cmp)
-    (frontier : InAnyOrder) (lists : ListsInOrder (state_of floor)) (tasks : TasksInOrder (state_of floor)) (numbers : NumbersInOrder (state_of floor))
-    (parted : Parted) (some : HaveSome) (few : AreFew) (beside : AreBeside) (full : AreFull) (s pick : ℕ) (l : s < length floor.shards.items) (free : is_out (state_of floor) s ≡ false) where
+module _ (answers : Answers) (parts : Parts) (inv : IsHall answers parts) (bags : BagLaws message_cmp) (sets : SetLaws notification_cmp) (apart : IsAntisymmetric time_cmp)
+    (frontier : InAnyOrder) (lists : ListsInOrder (state_of parts)) (tasks : TasksInOrder (state_of parts)) (numbers : NumbersInOrder (state_of parts))
+    (parted : Parted) (some : HaveSome) (few : AreFew) (beside : AreBeside) (full : AreFull) (s pick : ℕ) (l : s < length parts.shards.items) (free : is_out (state_of parts) s ≡ false) where
   abbrev S : HallState
-  S = state_of floor
+  S = state_of parts
 
   abbrev here : Shard
-  here = get_or floor.shards.items s empty_shard
+  here = get_or parts.shards.items s empty_shard
 
-  many : (p : Message → Bool) → length (filter (own (length floor.shards.items) s p) S.messages) ≡ length (filter p here.mailbox.messages)
+  many : (p : Message → Bool) → length (filter (own (length parts.shards.items) s p) S.messages) ≡ length (filter p here.mailbox.messages)
   many p =
-      let W = length floor.shards.items in
-      let within : s < length (mails floor.shards.items) = let long = length-map floor.shards.items (λ x. x.mailbox.messages) in omega (arith, long, l) in
+      let W = length parts.shards.items in
+      let within : s < length (mails parts.shards.items) = let long = length-map parts.shards.items (λ x. x.mailbox.messages) in omega (arith, long, l) in
       let zero_too : 0 + s ≡ s = omega arith in
-      let out = none_own W s p (with_tasks floor.out.items) (tasks_none answers floor inv bags sets apart frontier lists tasks numbers s floor.out.items tasks.there free) in
-      let mine = subst (λ n. length (filter (own W n p) (flat (mails floor.shards.items))) ≡ length (filter p (get_or (mails floor.shards.items) s []))) zero_too
-      (own_mail W p 0 (mails floor.shards.items) s within (mail_of W 0 floor.shards.items inv.shards)) in
-      let all = in_bag_too message_cmp (own W s p) (in_mailboxes floor.shards.items ++ with_tasks floor.out.items) in
-      let both = of_both message_cmp (own W s p) (in_mailboxes floor.shards.items) (with_tasks floor.out.items) in
-      let flat_too = ap (λ ms. length (filter (own W s p) ms)) (flat_mails floor.shards.items) in
-      let at = ap (λ ms. length (filter p ms)) (get_map (λ (x : Shard). x.mailbox.messages) floor.shards.items s empty_shard [] l) in
+      let out = none_own W s p (with_tasks parts.out.items) (tasks_none answers parts inv bags sets apart frontier lists tasks numbers s parts.out.items tasks.there free) in
+      let mine = subst (λ n. length (filter (own W n p) (flat (mails parts.shards.items))) ≡ length (filter p (get_or (mails parts.shards.items) s []))) zero_too
+      (own_mail W p 0 (mails parts.shards.items) s within (mail_of W 0 parts.shards.items inv.shards)) in
+      let all = in_bag_too message_cmp (own W s p) (in_mailboxes parts.shards.items ++ with_tasks parts.out.items) in
+      let both = of_both message_cmp (own W s p) (in_mailboxes parts.shards.items) (with_tasks parts.out.items) in
+      let flat_too = ap (λ ms. length (filter (own W s p) ms)) (flat_mails parts.shards.items) in
+      let at = ap (λ ms. length (filter p ms)) (get_map (λ (x : Shard). x.mailbox.messages) parts.shards.items s empty_shard [] l) in
       omega (arith, all, both, out, flat_too, mine, at)
 
-  is_full : (c : Candidate) (task : Task) → IsPicked floor.table here pick (Some c) → IsTaskFor floor s here c task → IsFull S s task
+  is_full : (c : Candidate) (task : Task) → IsPicked parts.table here pick (Some c) → IsTaskFor parts s here c task → IsFull S s task
   is_full (candidates.Message place) task picked is =
       let port = is.content.0 in
       let recs = is.content.1 in
@@ -192,7 +192,7 @@ module _ (answers : Answers) (floor : Floor) (inv : IsHall answers floor) (bags 
       let found = some_of (items_at here.waiting n.vertex n.time) (key_there n here.waiting picked.1.0 picked.1.1 picked.1.3) in
       subst (IsFullOf S s task) (sym (is.content.2 found.0 found.1)) tt
 
-  pub full_so : (new : Floor) (r : Result (Option Task) HallError) → IfOk r (IsPickTaken s pick floor new) → IfOk r (λ task. IfSome task (IsFull S s))
+  pub full_so : (new : Parts) (r : Result (Option Task) HallError) → IfOk r (IsPickTaken s pick parts new) → IfOk r (λ task. IfSome task (IsFull S s))
   full_so new (Err why) t = tt
   full_so new (Ok None) t = tt
   full_so new (Ok (Some task)) t = is_full t.0 task (t.1 empty_shard).0 (t.1 empty_shard).1

@@ -25,17 +25,17 @@ use Rattle.td_machine.specs.Steps.Answer.{has_given}
 use Rattle.td_machine.specs.Steps.Gives.{gives}
 use Rattle.td_machine.specs.Reached.{IsReached}
 use Rattle.td_shard.specs.declared.shard.Shard.{Shard}
-use Rattle.td_core.specs.declared.hall.Floor.{Floor}
-use Rattle.td_core.specs.Floor.{state_of, IsHall, IsShard, in_mailboxes, with_tasks}
+use Rattle.td_core.specs.declared.hall.Parts.{Parts}
+use Rattle.td_core.specs.Parts.{state_of, IsHall, IsShard, in_mailboxes, with_tasks}
 use Rattle.td_core.specs.Given.{IsUntouched, took}
 use Rattle.td_core.specs.Posted.{of_shard, mails, mails_with}
-use Rattle.td_core.specs.Sites.{IsSites, edge_in}
-use Rattle.td_core.specs.declared.hall.Sites.{Sites}
+use Rattle.td_core.specs.Routes.{IsRoutes, edge_in}
+use Rattle.td_core.specs.declared.hall.Routes.{Routes}
 use Rattle.td_core.proofs.CollectSteps.{ReachedByStep}
 use Rattle.td_core.proofs.CloseSteps.{CountsAppend}
 use Rattle.td_core.proofs.OutTasks.{of_one, same_number, is_itself}
-use Rattle.td_core.proofs.PostingSteps.{as_many_mails, roomier_shards, same_buffered, same_asked}
-use Rattle.td_core.proofs.SiteLists.{small_number}
+use Rattle.td_core.proofs.PostSteps.{as_many_mails, roomier_shards, same_buffered, same_asked}
+use Rattle.td_core.proofs.RouteLists.{small_number}
 
 -- THE TASK at a place of those that are out is one of them
 abbrev or_else : {X : Type 0} → X → Option X → X
@@ -86,7 +86,7 @@ gone_by_plan S T task (messages port recs) e = ap (λ p. gone_given (record S { 
 gone_by_plan S T task (notification items) e = refl
 
 -- A TASK that is out, and the pointstamps that come and go when it is given
-module _ (answers : Answers) (steps : ReachedByStep answers) (moves : StampsMove answers) (append : CountsAppend) (old : Floor) (task : Task)
+module _ (answers : Answers) (steps : ReachedByStep answers) (moves : StampsMove answers) (append : CountsAppend) (old : Parts) (task : Task)
     (there : Contains old.out.items task) (inv : IsHall answers old) where
   abbrev pub after : HallState
   after = is_given (effect answers (state_of old) task task.content) task
@@ -95,7 +95,7 @@ module _ (answers : Answers) (steps : ReachedByStep answers) (moves : StampsMove
   moved p = moves (state_of old) after (give task) has_given inv.reached (gives there) (is_stamp p)
 
   -- when those came that come, those are there that go
-  module _ (mid : Floor) (plan : mid.table.plan ≡ old.table.plan) (come : IsSameBag mid.table.stamps (come_given answers (state_of old) task task.content ++ old.table.stamps)) where
+  module _ (mid : Parts) (plan : mid.table.plan ≡ old.table.plan) (come : IsSameBag mid.table.stamps (come_given answers (state_of old) task task.content ++ old.table.stamps)) where
     pub enough : (p : Stamp) → occurrences p (gone_given (state_of mid) task task.content) ≤ occurrences p mid.table.stamps
     enough p =
         let same = ap (occurrences p) (gone_by_plan (state_of mid) (state_of old) task task.content plan) in
@@ -108,7 +108,7 @@ module _ (answers : Answers) (steps : ReachedByStep answers) (moves : StampsMove
         omega (arith, same, m, c, i, one, two, three)
 
     -- and when they are gone, the active ones of the state after are left
-    module _ (end : Floor) (gone : IsSameBag mid.table.stamps (gone_given (state_of mid) task task.content ++ end.table.stamps)) (is : state_of end ≡ after) where
+    module _ (end : Parts) (gone : IsSameBag mid.table.stamps (gone_given (state_of mid) task task.content ++ end.table.stamps)) (is : state_of end ≡ after) where
       still_counted : IsSameBag end.table.stamps (active after)
       still_counted p =
           let same = ap (occurrences p) (gone_by_plan (state_of mid) (state_of old) task task.content plan) in
@@ -123,16 +123,16 @@ module _ (answers : Answers) (steps : ReachedByStep answers) (moves : StampsMove
           omega (arith, same, m, c, g, i, one, two, three, four)
 
       -- the hall is one still
-      pub given_hall : end.inputs.items ≡ old.inputs.items → end.table.plan ≡ old.table.plan → end.sites ≡ old.sites → end.next ≡ old.next
+      pub given_hall : end.inputs.items ≡ old.inputs.items → end.table.plan ≡ old.table.plan → end.routes ≡ old.routes → end.next ≡ old.next
           → length end.shards.items ≡ length old.shards.items → AllByRecursion (IsShard (length end.shards.items)) (enumerate_from 0 end.shards.items) → IsHall answers end
-      given_hall inputs plan_end sites next many shards = record {
+      given_hall inputs plan_end routes next many shards = record {
         reached = subst (λ S. IsReached answers S) (sym is) (steps (state_of old) after (give task) has_given inv.reached (gives there));
         counted = subst (λ S. IsSameBag end.table.stamps (active S)) (sym is) still_counted;
         inputs = inputs ∙ (inv.inputs ∙ ap inputs_of (sym plan_end));
         shards = shards;
         few = subst (λ n. n ≤ 16) (sym many) inv.few;
         next = subst (λ n. n ≤ ends) (sym next) inv.next;
-        sites = subst (λ s. IsSites end.table.plan s) (sym sites) (subst (λ p. IsSites p old.sites) (sym plan_end) inv.sites);
+        routes = subst (λ s. IsRoutes end.table.plan s) (sym routes) (subst (λ p. IsRoutes p old.routes) (sym plan_end) inv.routes);
       }
 
 -- A HALL THAT IS UNTOUCHED but for room is as it was
@@ -140,7 +140,7 @@ mail_by_lists : (shards : List Shard) → in_mailboxes shards ≡ flat_map (λ m
 mail_by_lists [] = refl
 mail_by_lists (s ∷ shards) = ap (λ l. s.mailbox.messages ++ l) (mail_by_lists shards)
 
-module _ (old new : Floor) (same : IsUntouched old new) where
+module _ (old new : Parts) (same : IsUntouched old new) where
   abbrev olds : List Shard
   olds = old.shards.items
 
@@ -154,7 +154,7 @@ module _ (old new : Floor) (same : IsUntouched old new) where
   mail = mail_by_lists news ∙ (ap (flat_map (λ m. m)) same.shards.mails ∙ sym (mail_by_lists olds))
 
   pub untouched_state : state_of new ≡ state_of old
-  untouched_state = ap state_of same.parts ∙ (λ i. record (state_of old) {
+  untouched_state = ap state_of same.fields ∙ (λ i. record (state_of old) {
     plan = same.plan i;
     workers = many i;
     messages = bag_of message_cmp (mail i ++ with_tasks old.out.items);
@@ -166,11 +166,11 @@ module _ (old new : Floor) (same : IsUntouched old new) where
   untouched_hall answers inv = record {
     reached = subst (IsReached answers) (sym untouched_state) inv.reached;
     counted = λ p. same.stamps p ∙ (inv.counted p ∙ ap (λ S. occurrences p (active S)) (sym untouched_state));
-    inputs = ap (λ (f : Floor). f.inputs.items) same.parts ∙ (inv.inputs ∙ ap inputs_of (sym same.plan));
+    inputs = ap (λ (f : Parts). f.inputs.items) same.fields ∙ (inv.inputs ∙ ap inputs_of (sym same.plan));
     shards = roomier_shards olds news same.shards inv.shards;
     few = subst (λ n. n ≤ 16) (sym many) inv.few;
-    next = subst (λ n. n ≤ ends) (sym (ap (λ (f : Floor). f.next) same.parts)) inv.next;
-    sites = subst (λ s. IsSites new.table.plan s) (sym (ap (λ (f : Floor). f.sites) same.parts)) (subst (λ p. IsSites p old.sites) (sym same.plan) inv.sites);
+    next = subst (λ n. n ≤ ends) (sym (ap (λ (f : Parts). f.next) same.fields)) inv.next;
+    routes = subst (λ s. IsRoutes new.table.plan s) (sym (ap (λ (f : Parts). f.routes) same.fields)) (subst (λ p. IsRoutes p old.routes) (sym same.plan) inv.routes);
   }
 
 -- as many shards when messages were posted
@@ -188,9 +188,9 @@ so_often same append p (suc n) =
     let rest = so_often same append p n in
     omega (arith, one, two, rest)
 
-module _ (S : HallState) (sites : Sites) (are : IsSites S.plan sites) (own : StampsOfTask) (task : Task) where
+module _ (S : HallState) (routes : Routes) (are : IsRoutes S.plan routes) (own : StampsOfTask) (task : Task) where
   -- it goes as often as it came
-  pub gone_is_took : (content : Content) → gone_given S task content ≡ replicate (took sites task content).times (took sites task content).stamp
+  pub gone_is_took : (content : Content) → gone_given S task content ≡ replicate (took routes task content).times (took routes task content).stamp
   gone_is_took (messages port recs) =
       own S.plan task.vertex port task.time recs ∙ ap (λ e. replicate (length recs) (record { time = task.time; place = places.Edge e })) (sym (are.edge task.vertex port))
   gone_is_took (notification items) = refl
@@ -198,12 +198,12 @@ module _ (S : HallState) (sites : Sites) (are : IsSites S.plan sites) (own : Sta
   -- the number of its edge fits
   pub edge_is_small : ((p : Stamp) (xs : List Stamp) → Contains xs p ↔ (0 < occurrences p xs)) → ((p q : Stamp) → (is_stamp p q ≡ true) ↔ (p ≡ q)) → (append : CountsAppend)
       → (stamps : List Stamp) → ((p : Stamp) → occurrences p (gone_given S task task.content) ≤ occurrences p stamps) → AllByRecursion (IsOf S.plan) stamps → IsPlan S.plan → IsSized task.content
-      → (port : ℕ) (recs : List Rec) → task.content ≡ messages port recs → edge_in sites task.vertex port < 256
+      → (port : ℕ) (recs : List Rec) → task.content ≡ messages port recs → edge_in routes task.vertex port < 256
   edge_is_small contains same append stamps enough each lawful sized port recs content =
-      let p : Stamp = record { time = task.time; place = places.Edge (edge_in sites task.vertex port) } in
+      let p : Stamp = record { time = task.time; place = places.Edge (edge_in routes task.vertex port) } in
       let some = (subst IsSized content sized).0 in
       let many = ap (occurrences p) (ap (gone_given S task) content ∙ gone_is_took (messages port recs)) ∙ so_often same append p (length recs) in
       let least = enough p in
       let there : Contains stamps p = (contains p stamps).1 (omega (arith, some, many, least)) in
       let of = of_one (IsOf S.plan) stamps p each there in
-      small_number S.plan lawful (edge_in sites task.vertex port) of.0 of.1
+      small_number S.plan lawful (edge_in routes task.vertex port) of.0 of.1

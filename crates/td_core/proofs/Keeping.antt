@@ -9,7 +9,7 @@ use Rattle.td_reach.specs.declared.stamp.Stamp.{Stamp}
 use Rattle.td_machine.specs.Active.{stamp_at}
 use Rattle.td_shard.specs.Asked.{AskedList, with_items}
 use Rattle.td_shard.specs.declared.shard.Shard.{Shard}
-use Rattle.td_core.specs.Posted.{mails, waits, risen, IsRoomier}
+use Rattle.td_core.specs.Posted.{mails, waits, occurring, IsRoomier}
 use Rattle.td_core.specs.Delivered.{asked_now}
 
 -- what a result tells
@@ -48,10 +48,10 @@ module _ (shards : List Shard) (i : ℕ) (x : Shard) (here : x ≡ get_or shards
       map-set (λ s. s.waiting) shards i (record { mailbox = x.mailbox; waiting = w })
       ∙ ap (set (waits shards) i) (e ∙ ap (λ l. with_items l v t more) (its_waiting within))
 
--- its notification is raised where it was not asked for
-pub raised_if : (v : ℕ) (t : Timestamp) (asked b : Bool) (times : ℕ) (s : Stamp) → s ≡ stamp_at v t → (asked ≡ true → times ≡ 0) → (asked ≡ false → times ≡ 1) → asked ≡ b
-    → risen (record { stamp = s; times = times } ∷ []) ≡ asked_now v t b
-raised_if v t true true times s e none some same = ap (λ n. replicate n s ++ []) (none refl)
-raised_if v t false false times s e none some same = ap (λ n. replicate n s ++ []) (some refl) ∙ ap (λ p. p ∷ []) e
-raised_if v t true false times s e none some same = absurd (cc)
-raised_if v t false true times s e none some same = absurd (cc)
+-- its notification is added where it was not asked for
+pub added_if : (v : ℕ) (t : Timestamp) (asked b : Bool) (times : ℕ) (s : Stamp) → s ≡ stamp_at v t → (asked ≡ true → times ≡ 0) → (asked ≡ false → times ≡ 1) → asked ≡ b
+    → occurring (record { stamp = s; times = times } ∷ []) ≡ asked_now v t b
+added_if v t true true times s e none some same = ap (λ n. replicate n s ++ []) (none refl)
+added_if v t false false times s e none some same = ap (λ n. replicate n s ++ []) (some refl) ∙ ap (λ p. p ∷ []) e
+added_if v t true false times s e none some same = absurd (cc)
+added_if v t false true times s e none some same = absurd (cc)

@@ -14,9 +14,9 @@ pub mod GiveSteps
 pub mod NotifyShards
 pub mod NotifySends
 pub mod NotifySteps
-pub mod SiteLists
-pub mod PostingSteps
-pub mod Rises
+pub mod RouteLists
+pub mod PostSteps
+pub mod Changes
 pub mod OutTasks
 pub mod Waits
 pub mod WaitsSorted
@@ -25,7 +25,7 @@ pub mod WaitsAll
 pub mod ShardParts
 pub mod DeliverSteps
 pub mod NotifyGiven
-pub mod GiveFloor
+pub mod GiveTask
 pub mod PostRuns
 pub mod Sending
 pub mod Keeping
@@ -41,5 +41,5 @@ pub mod PickNamed
 pub mod FullTasks
 pub mod NextReady
 pub mod DrainSteps
-pub mod DrainFloors
+pub mod DrainParts
 pub mod Advance

@@ -8,12 +8,12 @@ use Rattle.td_machine.specs.declared.records.Message.{Message}
 use Rattle.td_shard.specs.declared.shard.Shard.{Shard}
 use Rattle.td_core.specs.declared.release.Load.{Load}
 use Rattle.td_shard.specs.declared.outlet.Outlet.{Outlet}
-use Rattle.td_core.specs.declared.hall.Sites.{Sites}
+use Rattle.td_core.specs.declared.hall.Routes.{Routes}
 use Rattle.td_core.specs.Posted.{count_of, runs_of, HaveRoom, HaveRoomFor, IsPosted}
 use Rattle.td_shard.specs.Messages.{on_each}
 use Rattle.td_core.specs.Released.{HaveRoomForLoads, load_of, messages_in, runs_in, messages_of, start_of}
-use Rattle.td_core.specs.Sites.{outlets_in}
-use Rattle.td_core.proofs.PostingSteps.{none_posted, posted_then, as_many_waits}
+use Rattle.td_core.specs.Routes.{outlets_in}
+use Rattle.td_core.proofs.PostSteps.{none_posted, posted_then, as_many_waits}
 use Rattle.td_core.proofs.PostRuns.{room_weaker}
 
 -- what one more element of a list adds
@@ -36,23 +36,23 @@ left_loads loads i load at within = ap (map load_of) (drop_more loads i load wit
 pub nothing_posted : (shards : List Shard) → IsPosted [] shards shards
 nothing_posted shards = record { mails = sym (none_posted (length shards) 0 shards); waiting = refl }
 
-module _ (sites : Sites) (epoch : ℕ) (loads : List Load) (i : ℕ) (item : Load) (at : item ≡ get_or loads i item) (within : i < length loads) where
+module _ (routes : Routes) (epoch : ℕ) (loads : List Load) (i : ℕ) (item : Load) (at : item ≡ get_or loads i item) (within : i < length loads) where
   abbrev posted_by : ℕ → List Message
-  posted_by n = flat_map (messages_of sites epoch) (map load_of (take n loads))
+  posted_by n = flat_map (messages_of routes epoch) (map load_of (take n loads))
 
   abbrev left_from : ℕ → List (ℕ × List Rec)
   left_from n = map load_of (drop n loads)
 
-  module _ (outlets : List Outlet) (time : Timestamp) (recs : List Rec) (o : outlets ≡ outlets_in sites item.input) (t : time ≡ start_of epoch) (r : recs ≡ item.recs.items) (shards : List Shard)
-      (room : HaveRoomForLoads sites (left_from i) shards) where
-    all_room : HaveRoomForLoads sites (load_of item ∷ left_from (i + 1)) shards
-    all_room = subst (λ l. HaveRoomForLoads sites l shards) (left_loads loads i item at within) room
+  module _ (outlets : List Outlet) (time : Timestamp) (recs : List Rec) (o : outlets ≡ outlets_in routes item.input) (t : time ≡ start_of epoch) (r : recs ≡ item.recs.items) (shards : List Shard)
+      (room : HaveRoomForLoads routes (left_from i) shards) where
+    all_room : HaveRoomForLoads routes (load_of item ∷ left_from (i + 1)) shards
+    all_room = subst (λ l. HaveRoomForLoads routes l shards) (left_loads loads i item at within) room
 
     abbrev runs_left : ℕ → ℕ
-    runs_left s = runs_in sites (length shards) (left_from (i + 1)) s
+    runs_left s = runs_in routes (length shards) (left_from (i + 1)) s
 
     abbrev messages_left : ℕ → ℕ
-    messages_left s = messages_in sites (length shards) (left_from (i + 1)) s
+    messages_left s = messages_in routes (length shards) (left_from (i + 1)) s
 
     here_and_left : HaveRoomFor (λ s. runs_of (length shards) recs (length outlets) s + runs_left s) (λ s. count_of (length shards) recs s * length outlets + messages_left s) shards
     here_and_left =
@@ -67,11 +67,11 @@ module _ (sites : Sites) (epoch : ℕ) (loads : List Load) (i : ℕ) (item : Loa
     pub posted_next : (old new : List Shard) → IsPosted (posted_by i) old shards → IsPosted (on_each outlets time recs) shards new → IsPosted (posted_by (i + 1)) old new
     posted_next old new before now =
         let here : posted_by i ++ on_each outlets time recs ≡ posted_by (i + 1) =
-        (λ j. posted_by i ++ on_each (o j) (t j) (r j)) ∙ sym (one_more_of (messages_of sites epoch) load_of loads i item within ∙ ap (λ l. posted_by i ++ messages_of sites epoch (load_of l)) (sym at)) in
+        (λ j. posted_by i ++ on_each (o j) (t j) (r j)) ∙ sym (one_more_of (messages_of routes epoch) load_of loads i item within ∙ ap (λ l. posted_by i ++ messages_of routes epoch (load_of l)) (sym at)) in
         subst (λ cs. IsPosted cs old new) here (posted_then (posted_by i) (on_each outlets time recs) old shards new before now)
 
     pub room_next : (new : List Shard) → IsPosted (on_each outlets time recs) shards new
         → ((runs many : ℕ → ℕ) → HaveRoomFor (λ s. runs_of (length shards) recs (length outlets) s + runs s) (λ s. count_of (length shards) recs s * length outlets + many s) shards → HaveRoomFor runs many new)
-        → HaveRoomForLoads sites (left_from (i + 1)) new
+        → HaveRoomForLoads routes (left_from (i + 1)) new
     room_next new now left =
-        subst (λ n. HaveRoomFor (runs_in sites n (left_from (i + 1))) (messages_in sites n (left_from (i + 1))) new) (sym (as_many_waits shards new now.waiting)) (left runs_left messages_left here_and_left)
+        subst (λ n. HaveRoomFor (runs_in routes n (left_from (i + 1))) (messages_in routes n (left_from (i + 1))) new) (sym (as_many_waits shards new now.waiting)) (left runs_left messages_left here_and_left)

@@ -9,10 +9,10 @@ use Rattle.td_machine.specs.State.{HallState}
 use Rattle.td_machine.specs.Active.{has_passed, unpassed}
 use Rattle.td_machine.specs.Sound.{Sound, run_states}
 use Rattle.td_machine.specs.Steps.{to_collect}
-use Rattle.td_core.specs.declared.hall.Floor.{Floor}
+use Rattle.td_core.specs.declared.hall.Parts.{Parts}
 use Rattle.td_core.specs.declared.cut.Cut.{Cut}
 use Rattle.td_core.specs.declared.error.HallError.{HallError}
-use Rattle.td_core.specs.Floor.{state_of, IsHall}
+use Rattle.td_core.specs.Parts.{state_of, IsHall}
 use Rattle.td_core.specs.Came.{out_of, passed_since}
 use Rattle.td_core.specs.Cuts.{states_after}
 use Rattle.td_core.specs.Meant.{IsMeantAt, IsMeant}
@@ -62,18 +62,18 @@ module _ (answers : Answers) (S : HallState) (sound : Sound answers S) where
           ap (has_passed S) is ∙ all_pass (has_passed S) (S.base + 1) (S.next - (S.base + 1)) none m (omega (arith, e))
 
 -- what a hall collects
-module _ (answers : Answers) (alike : PassedAlike) (floor : Floor) (inv : IsHall answers floor) (sound : Sound answers (state_of floor)) where
-  pub outs_meant : (r : Result (Vec EpochOut Global) HallError) → IfOk r (λ outs. outs.items ≡ map (out_of floor.outputs) (passed_since floor.table.stamps floor.collected floor.next))
-      → (S : HallState) → state_of floor ≡ S → IfOk r (λ outs. IsMeant answers S outs.items)
+module _ (answers : Answers) (alike : PassedAlike) (parts : Parts) (inv : IsHall answers parts) (sound : Sound answers (state_of parts)) where
+  pub outs_meant : (r : Result (Vec EpochOut Global) HallError) → IfOk r (λ outs. outs.items ≡ map (out_of parts.outputs) (passed_since parts.table.stamps parts.collected parts.next))
+      → (S : HallState) → state_of parts ≡ S → IfOk r (λ outs. IsMeant answers S outs.items)
   outs_meant (Ok outs) e S is =
       subst (λ T. IsMeant answers T outs.items) is
-      (subst (IsMeant answers (state_of floor)) (sym (e ∙ ap (map (out_of floor.outputs)) (passed_here alike floor inv.counted))) (collected_meant answers (state_of floor) sound))
+      (subst (IsMeant answers (state_of parts)) (sym (e ∙ ap (map (out_of parts.outputs)) (passed_here alike parts inv.counted))) (collected_meant answers (state_of parts) sound))
   outs_meant (Err why) e S is = tt
 
 -- and what it is cut to
-module _ (answers : Answers) (floor : Floor) (sound : Sound answers (state_of floor)) (epoch : ℕ) (after : floor.base ≤ epoch) (released : epoch < floor.next)
-    (passed : has_passed (state_of floor) epoch ≡ true) where
-  pub cut_meant : (r : Result Cut HallError) → IfOk r (λ made. made.epoch ≡ epoch) → IfOk r (λ made. made.states ≡ states_after floor epoch)
-      → (S : HallState) → state_of floor ≡ S → IfOk r (λ made. made.states ≡ run_states answers S made.epoch)
+module _ (answers : Answers) (parts : Parts) (sound : Sound answers (state_of parts)) (epoch : ℕ) (after : parts.base ≤ epoch) (released : epoch < parts.next)
+    (passed : has_passed (state_of parts) epoch ≡ true) where
+  pub cut_meant : (r : Result Cut HallError) → IfOk r (λ made. made.epoch ≡ epoch) → IfOk r (λ made. made.states ≡ states_after parts epoch)
+      → (S : HallState) → state_of parts ≡ S → IfOk r (λ made. made.states ≡ run_states answers S made.epoch)
   cut_meant (Ok made) e s S is = s ∙ (sound.states epoch after released passed ∙ (λ i. run_states answers (is i) (sym e i)))
   cut_meant (Err why) e s S is = tt

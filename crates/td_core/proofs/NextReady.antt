@@ -83,10 +83,10 @@ below_all x n ms l h = of_among (λ y. noted_cmp x y ≡ Less) ms n l h
 no_longer : (xs ys : List Noted) → Apart xs → ((n : Noted) → Among xs n → Among ys n) → length xs ≤ length ys
 no_longer [] ys once all = omega arith
 no_longer (x ∷ xs) ys once all =
-    let parts = split_at ys x (all x (inl refl)) in
-    let rest = no_longer xs (parts.0 ++ parts.1) once.1 (λ n h. elsewhere parts.0 parts.1 n (of_among (λ m. x ≡ m → ⊥) xs n once.0 h) (subst (λ l. Among l n) parts.2 (all n (inr h)))) in
-    let long = ap length parts.2 ∙ length-append parts.0 (x ∷ parts.1) in
-    let less = length-append parts.0 parts.1 in
+    let fields = split_at ys x (all x (inl refl)) in
+    let rest = no_longer xs (fields.0 ++ fields.1) once.1 (λ n h. elsewhere fields.0 fields.1 n (of_among (λ m. x ≡ m → ⊥) xs n once.0 h) (subst (λ l. Among l n) fields.2 (all n (inr h)))) in
+    let long = ap length fields.2 ∙ length-append fields.0 (x ∷ fields.1) in
+    let less = length-append fields.0 fields.1 in
     omega (arith, rest, long, less)
   where
     elsewhere : (before after : List Noted) (n : Noted) → (x ≡ n → ⊥) → Among (before ++ x ∷ after) n → Among (before ++ after) n
@@ -381,14 +381,14 @@ module _ (active : Active) where
   pub first_at : (asked : List Noted) (next : Option Noted) → IsStrictlySortedBy noted_cmp asked → IsNextReady active asked None next → IsReadyAt active asked 0 next
   first_at asked None once h = ([], none_of asked (each_among (λ n. IsReady active n → ⊥) asked (λ n at is. h n (contained asked n at) is refl)), omega arith)
   first_at asked (Some m) once h =
-      let parts = split_at asked m (among asked m h.0) in
-      let lower = before_is_less parts.0 parts.1 m (subst (IsStrictlySortedBy noted_cmp) parts.2 once) in (
-        parts.0,
-        parts.1,
+      let fields = split_at asked m (among asked m h.0) in
+      let lower = before_is_less fields.0 fields.1 m (subst (IsStrictlySortedBy noted_cmp) fields.2 once) in (
+        fields.0,
+        fields.1,
         [],
-        parts.2,
-        none_of parts.0 (each_among (λ n. IsReady active n → ⊥) parts.0
-            (λ n at is. h.3 n (contained asked n (subst (λ l. Among l n) (sym parts.2) (in_first parts.0 (m ∷ parts.1) n at))) is refl (of_among (λ x. noted_cmp x m ≡ Less) parts.0 n lower at))),
+        fields.2,
+        none_of fields.0 (each_among (λ n. IsReady active n → ⊥) fields.0
+            (λ n at is. h.3 n (contained asked n (subst (λ l. Among l n) (sym fields.2) (in_first fields.0 (m ∷ fields.1) n at))) is refl (of_among (λ x. noted_cmp x m ≡ Less) fields.0 n lower at))),
         refl,
         h.1,
       )
@@ -407,17 +407,17 @@ module _ (active : Active) where
       ready : List Noted
       ready = h.2
 
-      parts : asked ≡ before ++ last ∷ after
-      parts = h.3
+      fields : asked ≡ before ++ last ∷ after
+      fields = h.3
 
       own : List Noted
       own = before ++ last ∷ []
 
       in_parts : asked ≡ own ++ after
-      in_parts = parts ∙ sym (append_assoc before (last ∷ []) after)
+      in_parts = fields ∙ sym (append_assoc before (last ∷ []) after)
 
       sorted : IsStrictlySortedBy noted_cmp (last ∷ after)
-      sorted = later_sorted before (last ∷ after) (subst (IsStrictlySortedBy noted_cmp) parts once)
+      sorted = later_sorted before (last ∷ after) (subst (IsStrictlySortedBy noted_cmp) fields once)
 
       own_ready : AreReady active own (ready ++ last ∷ [])
       own_ready = one_ready active before ready last h.6 h.4
@@ -432,7 +432,7 @@ module _ (active : Active) where
       is_after n at = lt last n (below_all last n after (sorted_head noted_cmp last after sorted) at)
 
       lower : AllByRecursion (λ m. noted_cmp m last ≡ Less) before
-      lower = before_is_less before after last (subst (IsStrictlySortedBy noted_cmp) parts once)
+      lower = before_is_less before after last (subst (IsStrictlySortedBy noted_cmp) fields once)
 
       by : (next : Option Noted) → IsNextReady active asked (Some last) next → IsReadyAt active asked (place + 1) next
       by None k = (
@@ -441,7 +441,7 @@ module _ (active : Active) where
         omega (arith, many),
       )
       by (Some m) k =
-          let inner = split_at after m (stands_after (in_which before (last ∷ after) m (subst (λ l. Among l m) parts (among asked m k.0)))) in
+          let inner = split_at after m (stands_after (in_which before (last ∷ after) m (subst (λ l. Among l m) fields (among asked m k.0)))) in
           let low = before_is_less inner.0 inner.1 m (subst (IsStrictlySortedBy noted_cmp) inner.2 (sorted_tail noted_cmp last after sorted)) in (
             own ++ inner.0,
             inner.1,

@@ -20,7 +20,7 @@ use Rattle.td_machine.specs.Steps.{asked_at}
 use Rattle.td_shard.specs.declared.waiting.Noted.{Noted}
 use Rattle.td_shard.specs.Asked.{AskedList, noted_cmp, noted_at}
 use Rattle.td_shard.specs.ProvedOrders.{time_total, noted_equiv}
-use Rattle.td_core.specs.Floor.{asked_of_shard}
+use Rattle.td_core.specs.Parts.{asked_of_shard}
 
 abbrev pub Waits : Type 0
 Waits = Noted × List Arrival

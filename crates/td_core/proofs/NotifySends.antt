@@ -18,12 +18,12 @@ use Rattle.td_machine.specs.Active.{kind_of, bound_of}
 use Rattle.td_machine.specs.ByEdge.{StampsByEdge, stamps_by_edge, times_from}
 use Rattle.td_machine.specs.Moves.{stamps_of, come_given}
 use Rattle.td_machine.specs.Steps.{sending_times, posts, stamped, notified_sends}
-use Rattle.td_core.specs.declared.hall.Floor.{Floor}
-use Rattle.td_core.specs.Floor.{state_of}
-use Rattle.td_core.specs.declared.posting.Rise.{Rise}
+use Rattle.td_core.specs.declared.hall.Parts.{Parts}
+use Rattle.td_core.specs.Parts.{state_of}
+use Rattle.td_core.specs.declared.post.Change.{Change}
 use Rattle.td_shard.specs.declared.outlet.Outlet.{Outlet}
-use Rattle.td_core.specs.declared.hall.Sites.{Sites}
-use Rattle.td_core.specs.Sites.{IsSites}
+use Rattle.td_core.specs.declared.hall.Routes.{Routes}
+use Rattle.td_core.specs.Routes.{IsRoutes}
 use Rattle.td_core.specs.Posted.{stamp_on_outlet, stamps_on}
 use Rattle.td_shard.specs.Messages.{on_each}
 use Rattle.td_core.specs.Given.{outlets_for}
@@ -46,9 +46,9 @@ sends_now answers Feedback items bound t = inl (none_sent answers Feedback items
 sends_now answers Leave items bound t = inl (none_sent answers Leave items (λ k. refl))
 sends_now answers Output items bound t = inr refl
 
-module _ (plan : List Line) (sites : Sites) (are : IsSites plan sites) (v : ℕ) (t : Timestamp) where
+module _ (plan : List Line) (routes : Routes) (are : IsRoutes plan routes) (v : ℕ) (t : Timestamp) where
   abbrev pub there : List Rec → List Outlet
-  there recs = outlets_for sites v recs
+  there recs = outlets_for routes v recs
 
   abbrev pub AtOnceOrNone : List Rec → Type 0
   AtOnceOrNone recs = (recs ≡ []) ⊎ (times_from plan v t ≡ t ∷ [])
@@ -75,13 +75,13 @@ module _ (plan : List Line) (sites : Sites) (are : IsSites plan sites) (v : ℕ)
   of_plan_there of_plan (r ∷ recs) (inl none) = absurd (cc)
   of_plan_there of_plan (r ∷ recs) (inr now) = subst (AllByRecursion (λ o. IsOf plan (stamp_on_outlet t o))) (sym (are.outlets v)) (outlets_of_plan plan v t t now of_plan)
 
-abbrev pub rise_on : Timestamp → ℕ → Outlet → Rise
-rise_on t times o = record { stamp = stamp_on_outlet t o; times = times }
+abbrev pub change_on : Timestamp → ℕ → Outlet → Change
+change_on t times o = record { stamp = stamp_on_outlet t o; times = times }
 
-pub all_rise : (plan : List Line) (t : Timestamp) (times : ℕ) (os : List Outlet) → AllByRecursion (λ o. IsOf plan (stamp_on_outlet t o)) os
-    → AllByRecursion (λ r. IsOf plan r.stamp) (map (rise_on t times) os)
-all_rise plan t times [] h = tt
-all_rise plan t times (o ∷ os) h = (h.0, all_rise plan t times os h.1)
+pub all_changed : (plan : List Line) (t : Timestamp) (times : ℕ) (os : List Outlet) → AllByRecursion (λ o. IsOf plan (stamp_on_outlet t o)) os
+    → AllByRecursion (λ r. IsOf plan r.stamp) (map (change_on t times) os)
+all_changed plan t times [] h = tt
+all_changed plan t times (o ∷ os) h = (h.0, all_changed plan t times os h.1)
 
 -- whether nothing is sent, or at the vertex's own time
 abbrev pub NowOrNone : List Line → ℕ → Timestamp → List Rec → Type 0
@@ -97,24 +97,24 @@ now_or_none answers plan kind v t items recs k e = by (sends_now answers kind it
     by (inr now) = inr (ap (λ (k : Kind). sending_times k (bound_of plan v) t) (sym k) ∙ now)
 
 -- A NOTIFICATION whose task is out, and what is sent for it on these outlets
-module _ (answers : Answers) (floor : Floor) (task : Task) (items : List KeyItems) (recs : List Rec) (os : List Outlet) (sites : IsSites floor.table.plan floor.sites)
-    (kind : task.kind ≡ kind_of floor.table.plan task.vertex) (sends : SendsOfPlan (state_of floor) task)
-    (sent : recs ≡ notified_sends answers task.kind items) (outlets : os ≡ outlets_for floor.sites task.vertex recs) where
-  when : NowOrNone floor.table.plan task.vertex task.time recs
-  when = now_or_none answers floor.table.plan task.kind task.vertex task.time items recs kind sent
+module _ (answers : Answers) (parts : Parts) (task : Task) (items : List KeyItems) (recs : List Rec) (os : List Outlet) (routes : IsRoutes parts.table.plan parts.routes)
+    (kind : task.kind ≡ kind_of parts.table.plan task.vertex) (sends : SendsOfPlan (state_of parts) task)
+    (sent : recs ≡ notified_sends answers task.kind items) (outlets : os ≡ outlets_for parts.routes task.vertex recs) where
+  when : NowOrNone parts.table.plan task.vertex task.time recs
+  when = now_or_none answers parts.table.plan task.kind task.vertex task.time items recs kind sent
 
-  pub are_of_plan : AllByRecursion (λ o. IsOf floor.table.plan (stamp_on_outlet task.time o)) os
+  pub are_of_plan : AllByRecursion (λ o. IsOf parts.table.plan (stamp_on_outlet task.time o)) os
   are_of_plan =
-      subst (AllByRecursion (λ o. IsOf floor.table.plan (stamp_on_outlet task.time o))) (sym outlets)
-      (of_plan_there floor.table.plan floor.sites sites task.vertex task.time sends.sent recs when)
+      subst (AllByRecursion (λ o. IsOf parts.table.plan (stamp_on_outlet task.time o))) (sym outlets)
+      (of_plan_there parts.table.plan parts.routes routes task.vertex task.time sends.sent recs when)
 
-  pub mail_is : on_each os task.time recs ≡ posts floor.table.plan (stamped task.vertex task.time (notified_sends answers task.kind items))
+  pub mail_is : on_each os task.time recs ≡ posts parts.table.plan (stamped task.vertex task.time (notified_sends answers task.kind items))
   mail_is =
       ap (λ l. on_each l task.time recs) outlets
-      ∙ (sym (posted_there floor.table.plan floor.sites sites task.vertex task.time recs when) ∙ ap (λ l. posts floor.table.plan (stamped task.vertex task.time l)) sent)
+      ∙ (sym (posted_there parts.table.plan parts.routes routes task.vertex task.time recs when) ∙ ap (λ l. posts parts.table.plan (stamped task.vertex task.time l)) sent)
 
-  pub come_is : StampsByEdge → (p : Stamp) → occurrences p (stamps_on os task.time (length recs)) ≡ occurrences p (come_given answers (state_of floor) task (notification items))
+  pub come_is : StampsByEdge → (p : Stamp) → occurrences p (stamps_on os task.time (length recs)) ≡ occurrences p (come_given answers (state_of parts) task (notification items))
   come_is by_edge p =
       ap (λ l. occurrences p (stamps_on l task.time (length recs))) outlets
-      ∙ (sym (active_there floor.table.plan floor.sites sites task.vertex task.time by_edge recs when p)
-      ∙ ap (λ l. occurrences p (stamps_of floor.table.plan (posts floor.table.plan (stamped task.vertex task.time l)))) sent)
+      ∙ (sym (active_there parts.table.plan parts.routes routes task.vertex task.time by_edge recs when p)
+      ∙ ap (λ l. occurrences p (stamps_of parts.table.plan (posts parts.table.plan (stamped task.vertex task.time l)))) sent)

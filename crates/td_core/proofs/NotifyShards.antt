@@ -14,7 +14,7 @@ use Rattle.td_machine.specs.Steps.{asked_at}
 use Rattle.td_shard.specs.declared.shard.Shard.{Shard}
 use Rattle.td_shard.specs.Asked.{AskedList, without_items}
 use Rattle.td_task.specs.Answered.{left_for}
-use Rattle.td_core.specs.Floor.{asked_of_shard, asked_in}
+use Rattle.td_core.specs.Parts.{asked_of_shard, asked_in}
 use Rattle.td_core.specs.Posted.{mails, waits}
 use Rattle.td_core.specs.Given.{waiting_without}
 use Rattle.td_core.proofs.NotifyLists.{here, asked_is}

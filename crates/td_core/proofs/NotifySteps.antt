@@ -21,8 +21,8 @@ use Rattle.td_machine.specs.Waits.{WaitsByPlace, AskedPassing}
 use Rattle.td_shard.specs.declared.waiting.Noted.{Noted}
 use Rattle.td_shard.specs.declared.shard.Shard.{Shard}
 use Rattle.td_shard.specs.Asked.{AskedList, noted_cmp, noted_at, without_items}
-use Rattle.td_core.specs.declared.hall.Floor.{Floor}
-use Rattle.td_core.specs.Floor.{state_of, in_mailboxes, taken_up, with_tasks, waiting_at, waiting_in, asked_of_shard, asked_in}
+use Rattle.td_core.specs.declared.hall.Parts.{Parts}
+use Rattle.td_core.specs.Parts.{state_of, in_mailboxes, taken_up, with_tasks, waiting_at, waiting_in, asked_of_shard, asked_in}
 use Rattle.td_core.specs.Posted.{waits}
 use Rattle.td_core.specs.Given.{IsNotified, IsEnded, waiting_without}
 use Rattle.td_core.proofs.NotifyLists.{Waits, here, there_is, asked_is, removed, passes, alike, weaker, still_all, keys_filtered}
@@ -123,7 +123,7 @@ pub record NotifyLaws : Type 0 where
   pub asked : AskedPassing
 
 -- A NOTIFICATION that was answered and is out no more
-module _ (answers : Answers) (laws : NotifyLaws) (old mid end : Floor) (task : Task) (items : List KeyItems) (content : task.content ≡ notification items)
+module _ (answers : Answers) (laws : NotifyLaws) (old mid end : Parts) (task : Task) (items : List KeyItems) (content : task.content ≡ notification items)
     (there : Contains old.out.items task) (once : OneAShard old.out.items) (waiting_are : AllByRecursion (IsWaiting (length old.shards.items)) (enumerate_from 0 (waits old.shards.items)))
     (notified : IsNotified answers task items old mid) where
   abbrev sent : List Message
@@ -159,7 +159,7 @@ module _ (answers : Answers) (laws : NotifyLaws) (old mid end : Floor) (task : T
     left_out = filter (λ t. not (t.shard == task.shard)) old.out.items
 
     out : end.out.items ≡ left_out
-    out = ended.out ∙ ap (λ (f : Floor). filter (λ t. not (t.shard == task.shard)) f.out.items) notified.parts
+    out = ended.out ∙ ap (λ (f : Parts). filter (λ t. not (t.shard == task.shard)) f.out.items) notified.fields
 
     messages : bag_of message_cmp (in_mailboxes mids ++ with_tasks end.out.items) ≡ join message_cmp sent (bag_of message_cmp (in_mailboxes olds ++ with_tasks old.out.items))
     messages =
@@ -168,7 +168,7 @@ module _ (answers : Answers) (laws : NotifyLaws) (old mid end : Floor) (task : T
         ∙ sym (parted task laws.messages (in_mailboxes olds) old.out.items once there
         ∙ ap (λ c. join message_cmp (taken_up task.vertex task.time c) (bag_of message_cmp (in_mailboxes olds ++ with_tasks left_out))) content))
 
-    abbrev whole : Floor
+    abbrev whole : Parts
     whole = record old {
       table = end.table;
       shards = mid.shards;
@@ -177,8 +177,8 @@ module _ (answers : Answers) (laws : NotifyLaws) (old mid end : Floor) (task : T
       given = old.given + 1;
     }
 
-    pub parts : end ≡ whole
-    parts = ended.parts ∙ (λ i. record (notified.parts i) { table = end.table; out = end.out; given = (notified.parts i).given + 1 })
+    pub fields : end ≡ whole
+    fields = ended.fields ∙ (λ i. record (notified.fields i) { table = end.table; out = end.out; given = (notified.fields i).given + 1 })
 
     pub plan : end.table.plan ≡ old.table.plan
     plan = ended.plan ∙ notified.plan
@@ -186,7 +186,7 @@ module _ (answers : Answers) (laws : NotifyLaws) (old mid end : Floor) (task : T
     -- the step
     pub stepped : state_of end ≡ is_given (effect answers (state_of old) task task.content) task
     stepped =
-        ap state_of parts
+        ap state_of fields
         ∙ ((λ i. record (state_of old) {
           plan = plan i;
           workers = many i;

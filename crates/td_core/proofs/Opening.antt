@@ -13,9 +13,9 @@ use Rattle.td_machine.specs.State.{message_cmp, notification_cmp}
 use Rattle.td_machine.specs.Active.{active, inputs_of}
 use Rattle.td_machine.specs.Steps.{opened, ends}
 use Rattle.td_machine.specs.Reached.{IsReached}
-use Rattle.td_core.specs.declared.hall.Floor.{Floor}
-use Rattle.td_core.specs.Sites.{IsSites}
-use Rattle.td_core.specs.Floor.{state_of, IsHall, IsShard, empty_shard, in_mailboxes, with_tasks, waiting_in, asked_in}
+use Rattle.td_core.specs.declared.hall.Parts.{Parts}
+use Rattle.td_core.specs.Routes.{IsRoutes}
+use Rattle.td_core.specs.Parts.{state_of, IsHall, IsShard, empty_shard, in_mailboxes, with_tasks, waiting_in, asked_in}
 
 -- EMPTY SHARDS, so many of them
 no_mail : (n : ℕ) → in_mailboxes (replicate n empty_shard) ≡ []
@@ -36,39 +36,39 @@ empty_are workers k zero = tt
 empty_are workers k (suc n) = (record { messages = tt; items = tt; once = tt }, empty_are workers (k + 1) n)
 
 -- what is true of the parts of a hall that is opened
-pub record IsOpened (plan : List Line) (base : StateList) (first workers : ℕ) (floor : Floor) : Type 0 where
-  pub plan_is : floor.table.plan ≡ plan
-  pub stamps : IsSameBag floor.table.stamps (map (input_stamp first) (inputs_of plan))
-  pub inputs : floor.inputs.items ≡ inputs_of plan
-  pub base_is : floor.base ≡ first - 1
-  pub states : floor.states ≡ base
-  pub batches : floor.batches.items ≡ []
-  pub next : floor.next ≡ first
-  pub closed : floor.closed ≡ false
-  pub shards : floor.shards.items ≡ replicate workers empty_shard
-  pub seen : floor.seen ≡ []
-  pub versions : floor.versions ≡ []
-  pub out : floor.out.items ≡ []
-  pub outputs : floor.outputs ≡ []
-  pub collected : floor.collected ≡ first - 1
-  pub taken : floor.taken ≡ 0
-  pub given : floor.given ≡ 0
-  pub sites : IsSites plan floor.sites
+pub record IsOpened (plan : List Line) (base : StateList) (first workers : ℕ) (parts : Parts) : Type 0 where
+  pub plan_is : parts.table.plan ≡ plan
+  pub stamps : IsSameBag parts.table.stamps (map (input_stamp first) (inputs_of plan))
+  pub inputs : parts.inputs.items ≡ inputs_of plan
+  pub base_is : parts.base ≡ first - 1
+  pub states : parts.states ≡ base
+  pub batches : parts.batches.items ≡ []
+  pub next : parts.next ≡ first
+  pub closed : parts.closed ≡ false
+  pub shards : parts.shards.items ≡ replicate workers empty_shard
+  pub seen : parts.seen ≡ []
+  pub versions : parts.versions ≡ []
+  pub out : parts.out.items ≡ []
+  pub outputs : parts.outputs ≡ []
+  pub collected : parts.collected ≡ first - 1
+  pub taken : parts.taken ≡ 0
+  pub given : parts.given ≡ 0
+  pub routes : IsRoutes plan parts.routes
 
-module _ (plan : List Line) (base : StateList) (first workers : ℕ) (floor : Floor) (o : IsOpened plan base first workers floor) where
-  many : length floor.shards.items ≡ workers
+module _ (plan : List Line) (base : StateList) (first workers : ℕ) (parts : Parts) (o : IsOpened plan base first workers parts) where
+  many : length parts.shards.items ≡ workers
   many = ap length o.shards ∙ length-replicate workers empty_shard
 
-  no_messages : bag_of message_cmp (in_mailboxes floor.shards.items ++ with_tasks floor.out.items) ≡ []
+  no_messages : bag_of message_cmp (in_mailboxes parts.shards.items ++ with_tasks parts.out.items) ≡ []
   no_messages = (λ i. bag_of message_cmp (in_mailboxes (o.shards i) ++ with_tasks (o.out i))) ∙ ap (λ l. bag_of message_cmp (l ++ [])) (no_mail workers)
 
-  none_buffered : bag_of message_cmp (flat_map waiting_in floor.shards.items) ≡ []
+  none_buffered : bag_of message_cmp (flat_map waiting_in parts.shards.items) ≡ []
   none_buffered = ap (λ xs. bag_of message_cmp (flat_map waiting_in xs)) o.shards ∙ ap (bag_of message_cmp) (none_waits workers)
 
-  no_asked : set_of notification_cmp (flat_map asked_in (enumerate_from 0 floor.shards.items)) ≡ []
+  no_asked : set_of notification_cmp (flat_map asked_in (enumerate_from 0 parts.shards.items)) ≡ []
   no_asked = ap (λ xs. set_of notification_cmp (flat_map asked_in (enumerate_from 0 xs))) o.shards ∙ ap (set_of notification_cmp) (none_asked 0 workers)
 
-  pub opened_state : state_of floor ≡ opened plan base first workers
+  pub opened_state : state_of parts ≡ opened plan base first workers
   opened_state = λ i. record {
     plan = o.plan_is i;
     workers = many i;
@@ -89,15 +89,15 @@ module _ (plan : List Line) (base : StateList) (first workers : ℕ) (floor : Fl
     given = o.given i;
   }
 
-  pub opened_hall : (answers : Answers) → IsReached answers (opened plan base first workers) → workers ≤ 16 → first ≤ ends → IsHall answers floor
+  pub opened_hall : (answers : Answers) → IsReached answers (opened plan base first workers) → workers ≤ 16 → first ≤ ends → IsHall answers parts
   opened_hall answers reached few numbers = record {
     reached = subst (IsReached answers) (sym opened_state) reached;
-    counted = subst (IsSameBag floor.table.stamps) (sym (ap active opened_state)) o.stamps;
+    counted = subst (IsSameBag parts.table.stamps) (sym (ap active opened_state)) o.stamps;
     inputs = o.inputs ∙ sym (ap inputs_of o.plan_is);
     shards = subst (λ xs. AllByRecursion (IsShard (length xs)) (enumerate_from 0 xs)) (sym o.shards) (empty_are (length (replicate workers empty_shard)) 0 workers);
     few = let m = many in omega (arith, m, few);
     next = subst (λ n. n ≤ ends) (sym o.next) numbers;
-    sites = subst (λ p. IsSites p floor.sites) (sym o.plan_is) o.sites;
+    routes = subst (λ p. IsRoutes p parts.routes) (sym o.plan_is) o.routes;
   }
 
 -- the inputs of a hall that is opened are of its plan

@@ -7,7 +7,7 @@ use Rattle.td_stamp.specs.BagLaws.{BagLaws}
 use Rattle.td_machine.specs.declared.records.Message.{Message}
 use Rattle.td_machine.specs.State.{Task, message_cmp}
 use Rattle.td_machine.specs.InOrder.{OneAShard}
-use Rattle.td_core.specs.Floor.{taken_up, with_tasks}
+use Rattle.td_core.specs.Parts.{taken_up, with_tasks}
 
 -- what holds of each holds of one
 pub of_one : {X : Type 0} (P : X → Type 0) (xs : List X) (x : X) → AllByRecursion P xs → Contains xs x → P x

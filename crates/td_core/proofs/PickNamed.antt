@@ -26,10 +26,10 @@ use Rattle.td_shard.specs.declared.shard.Shard.{Shard}
 use Rattle.td_shard.specs.Asked.{AskedList, noted_cmp, noted_at, items_at}
 use Rattle.td_shard.specs.ProvedOrders.{noted_total}
 use Rattle.td_core.specs.declared.error.HallError.{HallError}
-use Rattle.td_core.specs.declared.hall.Floor.{Floor}
+use Rattle.td_core.specs.declared.hall.Parts.{Parts}
 use Rattle.td_core.specs.declared.take.Candidate.{Candidate}
 use Rattle.td_core.specs.declared.take.Candidate.TheVariants as candidates
-use Rattle.td_core.specs.Floor.{state_of, IsHall, empty_shard, in_mailboxes, with_tasks}
+use Rattle.td_core.specs.Parts.{state_of, IsHall, empty_shard, in_mailboxes, with_tasks}
 use Rattle.td_core.specs.Posted.{mails}
 use Rattle.td_core.specs.Picks.{IsAt, IsPick, AreOpen, messages_at}
 use Rattle.td_core.specs.Taking.{IsReady, AreReady, IsPicked, IsTaskFor, IsPickTaken, asked_at}
@@ -227,42 +227,42 @@ own_mail workers k (m ∷ ms) (suc i) l h =
     omega (arith, none, rest, both)
 
 -- A HALL from which a task is taken
-module _ (answers : Answers) (floor : Floor) (inv : IsHall answers floor) (bags : BagLaws message_cmp) (sets : SetLaws notification_cmp) (apart : IsAntisymmetric time_cmp)
-    (frontier : InAnyOrder) (lists : ListsInOrder (state_of floor)) (tasks : TasksInOrder (state_of floor)) (numbers : NumbersInOrder (state_of floor))
-    (s pick : ℕ) (l : s < length floor.shards.items) (free : is_out (state_of floor) s ≡ false) where
+module _ (answers : Answers) (parts : Parts) (inv : IsHall answers parts) (bags : BagLaws message_cmp) (sets : SetLaws notification_cmp) (apart : IsAntisymmetric time_cmp)
+    (frontier : InAnyOrder) (lists : ListsInOrder (state_of parts)) (tasks : TasksInOrder (state_of parts)) (numbers : NumbersInOrder (state_of parts))
+    (s pick : ℕ) (l : s < length parts.shards.items) (free : is_out (state_of parts) s ≡ false) where
   abbrev S : HallState
-  S = state_of floor
+  S = state_of parts
 
   abbrev here : Shard
-  here = get_or floor.shards.items s empty_shard
+  here = get_or parts.shards.items s empty_shard
 
   many : messages_at S s ≡ length here.mailbox.messages
   many =
-      let W = length floor.shards.items in
-      let within : s < length (mails floor.shards.items) = let long = length-map floor.shards.items (λ x. x.mailbox.messages) in omega (arith, long, l) in
+      let W = length parts.shards.items in
+      let within : s < length (mails parts.shards.items) = let long = length-map parts.shards.items (λ x. x.mailbox.messages) in omega (arith, long, l) in
       let zero_too : 0 + s ≡ s = omega arith in
-      let out = none_own W s (with_tasks floor.out.items) (tasks_none answers floor inv bags sets apart frontier lists tasks numbers s floor.out.items tasks.there free) in
-      let mine = subst (λ n. length (filter (own W n) (flat (mails floor.shards.items))) ≡ length (get_or (mails floor.shards.items) s [])) zero_too
-      (own_mail W 0 (mails floor.shards.items) s within (mail_of W 0 floor.shards.items inv.shards)) in
-      let all = in_bag_too message_cmp (own W s) (in_mailboxes floor.shards.items ++ with_tasks floor.out.items) in
-      let both = of_both message_cmp (own W s) (in_mailboxes floor.shards.items) (with_tasks floor.out.items) in
-      let flat_too = ap (λ ms. length (filter (own W s) ms)) (flat_mails floor.shards.items) in
-      let at = ap length (get_map (λ (x : Shard). x.mailbox.messages) floor.shards.items s empty_shard [] l) in
+      let out = none_own W s (with_tasks parts.out.items) (tasks_none answers parts inv bags sets apart frontier lists tasks numbers s parts.out.items tasks.there free) in
+      let mine = subst (λ n. length (filter (own W n) (flat (mails parts.shards.items))) ≡ length (get_or (mails parts.shards.items) s [])) zero_too
+      (own_mail W 0 (mails parts.shards.items) s within (mail_of W 0 parts.shards.items inv.shards)) in
+      let all = in_bag_too message_cmp (own W s) (in_mailboxes parts.shards.items ++ with_tasks parts.out.items) in
+      let both = of_both message_cmp (own W s) (in_mailboxes parts.shards.items) (with_tasks parts.out.items) in
+      let flat_too = ap (λ ms. length (filter (own W s) ms)) (flat_mails parts.shards.items) in
+      let at = ap length (get_map (λ (x : Shard). x.mailbox.messages) parts.shards.items s empty_shard [] l) in
       omega (arith, all, both, out, flat_too, mine, at)
 
   -- what is open is what a walk finds
-  open_walked : IsStrictlySortedBy noted_cmp (asked_at here) → (notes : List Noted) → AreOpen S s notes → AreReady floor.table (asked_at here) notes
-  open_walked once notes are = walked apart floor.table (asked_at here) notes once are.in_order
+  open_walked : IsStrictlySortedBy noted_cmp (asked_at here) → (notes : List Noted) → AreOpen S s notes → AreReady parts.table (asked_at here) notes
+  open_walked once notes are = walked apart parts.table (asked_at here) notes once are.in_order
       (λ n h.
       let both = (are.each n).0 (contained notes n h) in
-      (is_asked_for apart n here.waiting (sym (asked_is n) ∙ both.0), in_table answers floor inv bags sets apart frontier lists tasks numbers n both.1))
-      (λ n h ready. among notes n ((are.each n).1 (asked_is n ∙ has_items apart n here.waiting h, in_state answers floor inv bags sets apart frontier lists tasks numbers n ready)))
+      (is_asked_for apart n here.waiting (sym (asked_is n) ∙ both.0), in_table answers parts inv bags sets apart frontier lists tasks numbers n both.1))
+      (λ n h ready. among notes n ((are.each n).1 (asked_is n ∙ has_items apart n here.waiting h, in_state answers parts inv bags sets apart frontier lists tasks numbers n ready)))
     where
       asked_is : (n : Noted) → is_asked S s n.vertex n.time ≡ is_some (items_at here.waiting n.vertex n.time)
-      asked_is n = asked_there answers floor inv bags sets apart frontier lists tasks numbers s n.vertex n.time empty_shard l
+      asked_is n = asked_there answers parts inv bags sets apart frontier lists tasks numbers s n.vertex n.time empty_shard l
 
   -- THE TASK is the one that the pick names
-  pub named : IsStrictlySortedBy noted_cmp (asked_at here) → (c : Candidate) (task : Task) → IsPicked floor.table here pick (Some c) → IsTaskFor floor s here c task → IsPick S s pick task
+  pub named : IsStrictlySortedBy noted_cmp (asked_at here) → (c : Candidate) (task : Task) → IsPicked parts.table here pick (Some c) → IsTaskFor parts s here c task → IsPick S s pick task
   named once (candidates.Message place) task picked is notes are =
       let under = picked.0 in
       let at = picked.1 notes (open_walked once notes are) (omega (arith, under)) in
@@ -271,7 +271,7 @@ module _ (answers : Answers) (floor : Floor) (inv : IsHall answers floor) (bags 
   named once (candidates.Notification n) task picked is notes are =
       let place = picked.0 in
       let ready = picked.1.2 in
-      let one = found_there floor.table picked.1.0 picked.1.1 ready notes n (subst (λ a. AreReady floor.table a notes) picked.1.3 (open_walked once notes are)) picked.1.4 picked.1.6 in
+      let one = found_there parts.table picked.1.0 picked.1.1 ready notes n (subst (λ a. AreReady parts.table a notes) picked.1.3 (open_walked once notes are)) picked.1.4 picked.1.6 in
       let long = ap length one.1 ∙ length-append ready (n ∷ one.0) in
       let at = picked.2 notes (open_walked once notes are) (omega (arith, long)) in
       let total = ap (λ k. pick % (k + length notes)) many in
@@ -284,7 +284,7 @@ module _ (answers : Answers) (floor : Floor) (inv : IsHall answers floor) (bags 
         ap (slice_get notes) where_is ∙ (ap (λ ns. slice_get ns (length ready)) one.1 ∙ (get_there ready one.0 n ∙ ap Some it)),
       )
 
-  pub named_so : IsStrictlySortedBy noted_cmp (asked_at here) → (new : Floor) (r : Result (Option Task) HallError) → IfOk r (IsPickTaken s pick floor new) → IfOk r (λ task. IfSome task (IsPick S s pick))
+  pub named_so : IsStrictlySortedBy noted_cmp (asked_at here) → (new : Parts) (r : Result (Option Task) HallError) → IfOk r (IsPickTaken s pick parts new) → IfOk r (λ task. IfSome task (IsPick S s pick))
   named_so once new (Err why) t = tt
   named_so once new (Ok None) t = tt
   named_so once new (Ok (Some task)) t = named once t.0 task (t.1 empty_shard).0 (t.1 empty_shard).1

@@ -16,7 +16,7 @@ use Rattle.td_core.specs.declared.error.HallError.{HallError}
 use Rattle.td_shard.specs.declared.outlet.Outlet.{Outlet}
 use Rattle.td_core.specs.Posted.{of_shard, mails, waits, IsPosted, IsRoomier, HasRoom, HaveRoom, HaveRoomFor, HaveRoomApart, count_of, runs_of, only_in}
 use Rattle.td_shard.specs.Messages.{on_outlet, on_each}
-use Rattle.td_core.proofs.PostingSteps.{posted_from, roomier_same}
+use Rattle.td_core.proofs.PostSteps.{posted_from, roomier_same}
 
 equal : (a b : ℕ) → a ≡ b → (a == b) ≡ true
 equal a b e = grind (arith, nat_tests)

@@ -24,17 +24,17 @@ use Rattle.td_machine.specs.Steps.{accepts, entered, posts, stamped, on_edge, ed
 use Rattle.td_machine.specs.Moves.{stamps_of}
 use Rattle.td_machine.specs.ByEdge.{stamp_on, stamps_by_edge, StampsByEdge}
 use Rattle.td_machine.specs.Sends.{SentOfPlan}
-use Rattle.td_core.specs.declared.posting.Rise.{Rise}
+use Rattle.td_core.specs.declared.post.Change.{Change}
 use Rattle.td_shard.specs.declared.outlet.Outlet.{Outlet}
-use Rattle.td_core.specs.declared.hall.Sites.{Sites}
-use Rattle.td_core.specs.Posted.{stamp_on_outlet, risen}
+use Rattle.td_core.specs.declared.hall.Routes.{Routes}
+use Rattle.td_core.specs.Posted.{stamp_on_outlet, occurring}
 use Rattle.td_shard.specs.Messages.{on_outlet, on_each}
-use Rattle.td_core.specs.Released.{loads_in, messages_of, rises_of, start_of}
-use Rattle.td_core.specs.Sites.{IsSites, outlet_of, outlets_of, outlets_in}
+use Rattle.td_core.specs.Released.{loads_in, messages_of, changes_of, start_of}
+use Rattle.td_core.specs.Routes.{IsRoutes, outlet_of, outlets_of, outlets_in}
 use Rattle.td_core.proofs.BatchParts.{of_input, batch_in_parts, inputs_are}
 use Rattle.td_core.proofs.CloseSteps.{CountsAppend}
 
-module _ (plan : List Line) (sites : Sites) (fits : IsSites plan sites) (epoch : ℕ) (batch : List Entry) where
+module _ (plan : List Line) (routes : Routes) (fits : IsRoutes plan routes) (epoch : ℕ) (batch : List Entry) where
   abbrev t : Timestamp
   t = start_of epoch
 
@@ -70,49 +70,49 @@ module _ (plan : List Line) (sites : Sites) (fits : IsSites plan sites) (epoch :
       ∙ (append-nil (map (on_edge t r) (edges_from plan i)) ∙ out_on r (edges_from plan i)) in
       λ j. here j ++ sent_out i k recs j
 
-  by_input : (is : List ℕ) → AllByRecursion (λ i. kind_of plan i ≡ Input) is → flat_map (messages_of sites epoch) (loads_in is batch) ≡ flat_map sent_of is
+  by_input : (is : List ℕ) → AllByRecursion (λ i. kind_of plan i ≡ Input) is → flat_map (messages_of routes epoch) (loads_in is batch) ≡ flat_map sent_of is
   by_input [] h = refl
   by_input (i ∷ is) h =
-      let here : on_each (outlets_in sites i) t (records_for i batch) ≡ sent_of i =
+      let here : on_each (outlets_in routes i) t (records_for i batch) ≡ sent_of i =
       ap (λ o. on_each o t (records_for i batch)) (fits.outlets i) ∙ sym (sent_out i h.0 (records_for i batch)) in
       λ j. here j ++ by_input is h.1 j
 
   -- THEIR POINTSTAMPS
   module _ (append : CountsAppend) (by_edge : StampsByEdge) where
-    risen_on : (many : ℕ) (es : List Edge) → risen (map (λ (o : Outlet). let r : Rise = record { stamp = stamp_on_outlet t o; times = many } in r) (map (outlet_of plan) es)) ≡ flat_map (λ e. replicate many (stamp_on plan t e)) es
-    risen_on many [] = refl
-    risen_on many (e ∷ es) = ap (λ l. replicate many (stamp_on plan t e) ++ l) (risen_on many es)
+    occurring_on : (many : ℕ) (es : List Edge) → occurring (map (λ (o : Outlet). let r : Change = record { stamp = stamp_on_outlet t o; times = many } in r) (map (outlet_of plan) es)) ≡ flat_map (λ e. replicate many (stamp_on plan t e)) es
+    occurring_on many [] = refl
+    occurring_on many (e ∷ es) = ap (λ l. replicate many (stamp_on plan t e) ++ l) (occurring_on many es)
 
     edges_of : (i : ℕ) → kind_of plan i ≡ Input → (many : ℕ) → stamps_by_edge plan i t many ≡ flat_map (λ e. replicate many (stamp_on plan t e)) (edges_from plan i)
     edges_of i k many =
         ap (λ kind. flat_map (λ later. flat_map (λ e. replicate many (stamp_on plan later e)) (edges_from plan i)) (sending_times kind (bound_of plan i) t)) k
         ∙ append-nil (flat_map (λ e. replicate many (stamp_on plan t e)) (edges_from plan i))
 
-    abbrev edge_rises : ℕ → List Rise
-    edge_rises i = map (λ o. record { stamp = stamp_on_outlet t o; times = length (records_for i batch) }) (outlets_in sites i)
+    abbrev edge_changes : ℕ → List Change
+    edge_changes i = map (λ o. record { stamp = stamp_on_outlet t o; times = length (records_for i batch) }) (outlets_in routes i)
 
-    of_one : (i : ℕ) → kind_of plan i ≡ Input → (p : Stamp) → occurrences p (risen (edge_rises i)) ≡ occurrences p (stamps_of plan (sent_of i))
+    of_one : (i : ℕ) → kind_of plan i ≡ Input → (p : Stamp) → occurrences p (occurring (edge_changes i)) ≡ occurrences p (stamps_of plan (sent_of i))
     of_one i k p =
         let many = length (records_for i batch) in
-        ap (occurrences p) (ap (λ os. risen (map (λ o. record { stamp = stamp_on_outlet t o; times = many }) os)) (fits.outlets i) ∙ (risen_on many (edges_from plan i) ∙ sym (edges_of i k many)))
+        ap (occurrences p) (ap (λ os. occurring (map (λ o. record { stamp = stamp_on_outlet t o; times = many }) os)) (fits.outlets i) ∙ (occurring_on many (edges_from plan i) ∙ sym (edges_of i k many)))
         ∙ sym (by_edge plan i t (records_for i batch) (is_stamp p))
 
-    abbrev all_rises : List ℕ → List Rise
-    all_rises is = flat_map (rises_of sites epoch) (loads_in is batch)
+    abbrev all_changes : List ℕ → List Change
+    all_changes is = flat_map (changes_of routes epoch) (loads_in is batch)
 
-    risen_two : (xs ys : List Rise) → risen (xs ++ ys) ≡ risen xs ++ risen ys
-    risen_two xs ys = flat_map-append (λ r. replicate r.times r.stamp) xs ys
+    occurring_two : (xs ys : List Change) → occurring (xs ++ ys) ≡ occurring xs ++ occurring ys
+    occurring_two xs ys = flat_map-append (λ r. replicate r.times r.stamp) xs ys
 
     come_in : (is : List ℕ) → AllByRecursion (λ i. kind_of plan i ≡ Input) is → (p : Stamp)
-        → occurrences p (risen (all_rises is)) ≡ occurrences p (stamps_of plan (flat_map sent_of is)) + occurrences p (map (input_stamp (epoch + 1)) is)
+        → occurrences p (occurring (all_changes is)) ≡ occurrences p (stamps_of plan (flat_map sent_of is)) + occurrences p (map (input_stamp (epoch + 1)) is)
     come_in [] h p = refl
     come_in (i ∷ is) h p =
-        let last : Rise = record { stamp = input_stamp (epoch + 1) i; times = 1 } in
+        let last : Change = record { stamp = input_stamp (epoch + 1) i; times = 1 } in
         let one = of_one i h.0 p in
         let rest = come_in is h.1 p in
-        let a = ap (occurrences p) (risen_two (edge_rises i ++ last ∷ []) (all_rises is) ∙ ap (λ l. l ++ risen (all_rises is)) (risen_two (edge_rises i) (last ∷ []))) in
-        let b = append p (risen (edge_rises i) ++ input_stamp (epoch + 1) i ∷ []) (risen (all_rises is)) in
-        let c = append p (risen (edge_rises i)) (input_stamp (epoch + 1) i ∷ []) in
+        let a = ap (occurrences p) (occurring_two (edge_changes i ++ last ∷ []) (all_changes is) ∙ ap (λ l. l ++ occurring (all_changes is)) (occurring_two (edge_changes i) (last ∷ []))) in
+        let b = append p (occurring (edge_changes i) ++ input_stamp (epoch + 1) i ∷ []) (occurring (all_changes is)) in
+        let c = append p (occurring (edge_changes i)) (input_stamp (epoch + 1) i ∷ []) in
         let d = ap (occurrences p) (map-append (stamp_of_message plan) (sent_of i) (flat_map sent_of is)) in
         let e = append p (stamps_of plan (sent_of i)) (stamps_of plan (flat_map sent_of is)) in
         let f = append p (input_stamp (epoch + 1) i ∷ []) (map (input_stamp (epoch + 1)) is) in
@@ -125,36 +125,36 @@ module _ (plan : List Line) (sites : Sites) (fits : IsSites plan sites) (epoch :
     all_two P (x ∷ xs) ys h k = (h.0, all_two P xs ys h.1 k)
 
     on_edges : (many : ℕ) (es : List Edge) → AllByRecursion (IsOf plan) (flat_map (λ e. replicate 1 (stamp_on plan t e)) es ++ [])
-        → AllByRecursion (λ r. IsOf plan r.stamp) (map (λ (o : Outlet). let r : Rise = record { stamp = stamp_on_outlet t o; times = many } in r) (map (outlet_of plan) es))
+        → AllByRecursion (λ r. IsOf plan r.stamp) (map (λ (o : Outlet). let r : Change = record { stamp = stamp_on_outlet t o; times = many } in r) (map (outlet_of plan) es))
     on_edges many [] h = tt
     on_edges many (e ∷ es) h = (h.0, on_edges many es h.1)
 
-    pub rises_fit : (is : List ℕ) → AllByRecursion (λ i. kind_of plan i ≡ Input) is → AllByRecursion (λ i. IsOf plan (input_stamp (epoch + 1) i)) is
-        → AllByRecursion (λ r. IsOf plan r.stamp) (flat_map (rises_of sites epoch) (loads_in is batch))
-    rises_fit [] k h = tt
-    rises_fit (i ∷ is) k h =
-        let IsFit : Rise → Type 0 = λ r. IsOf plan r.stamp in
-        let last : Rise = record { stamp = input_stamp (epoch + 1) i; times = 1 } in
+    pub changes_fit : (is : List ℕ) → AllByRecursion (λ i. kind_of plan i ≡ Input) is → AllByRecursion (λ i. IsOf plan (input_stamp (epoch + 1) i)) is
+        → AllByRecursion (λ r. IsOf plan r.stamp) (flat_map (changes_of routes epoch) (loads_in is batch))
+    changes_fit [] k h = tt
+    changes_fit (i ∷ is) k h =
+        let IsFit : Change → Type 0 = λ r. IsOf plan r.stamp in
+        let last : Change = record { stamp = input_stamp (epoch + 1) i; times = 1 } in
         let many = length (records_for i batch) in
         let sent : AllByRecursion (IsOf plan) (flat_map (λ e. replicate 1 (stamp_on plan t e)) (edges_from plan i) ++ []) =
         subst (λ kind. AllByRecursion (IsOf plan) (flat_map (λ later. flat_map (λ e. replicate 1 (stamp_on plan later e)) (edges_from plan i)) (sending_times kind (bound_of plan i) t))) k.0 (sends plan i t lawful h.0 1) in
-        let edges : AllByRecursion IsFit (map (λ o. record { stamp = stamp_on_outlet t o; times = many }) (outlets_in sites i)) =
+        let edges : AllByRecursion IsFit (map (λ o. record { stamp = stamp_on_outlet t o; times = many }) (outlets_in routes i)) =
         subst (λ os. AllByRecursion IsFit (map (λ o. record { stamp = stamp_on_outlet t o; times = many }) os)) (sym (fits.outlets i)) (on_edges many (edges_from plan i) sent) in
-        all_two IsFit (rises_of sites epoch (i, records_for i batch)) (flat_map (rises_of sites epoch) (loads_in is batch))
-        (all_two IsFit (map (λ o. record { stamp = stamp_on_outlet t o; times = many }) (outlets_in sites i)) (last ∷ []) edges (h.0, tt)) (rises_fit is k.1 h.1)
+        all_two IsFit (changes_of routes epoch (i, records_for i batch)) (flat_map (changes_of routes epoch) (loads_in is batch))
+        (all_two IsFit (map (λ o. record { stamp = stamp_on_outlet t o; times = many }) (outlets_in routes i)) (last ∷ []) edges (h.0, tt)) (changes_fit is k.1 h.1)
 
 -- A BATCH THAT IS ACCEPTED
 module _ (plan : List Line) (numbered : (v : ℕ) (p : PlacedVertex) → slice_get (vertices plan) v ≡ Some p → p.vertex.number ≡ v)
-    (sites : Sites) (fits : IsSites plan sites) (epoch : ℕ) (batch : List Entry) (up : Rises entry_cmp batch) (accepted : accepts plan batch ≡ true) where
-  in_parts : posts plan (map (entered epoch) batch) ≡ flat_map (sent_of plan sites fits epoch batch) (inputs_of plan)
-  in_parts = ap (λ xs. posts plan (map (entered epoch) xs)) (sym (batch_in_parts plan numbered batch up accepted)) ∙ in_all plan sites fits epoch batch (inputs_of plan)
+    (routes : Routes) (fits : IsRoutes plan routes) (epoch : ℕ) (batch : List Entry) (up : Rises entry_cmp batch) (accepted : accepts plan batch ≡ true) where
+  in_parts : posts plan (map (entered epoch) batch) ≡ flat_map (sent_of plan routes fits epoch batch) (inputs_of plan)
+  in_parts = ap (λ xs. posts plan (map (entered epoch) xs)) (sym (batch_in_parts plan numbered batch up accepted)) ∙ in_all plan routes fits epoch batch (inputs_of plan)
 
-  pub batch_posts : flat_map (messages_of sites epoch) (loads_in (inputs_of plan) batch) ≡ posts plan (map (entered epoch) batch)
-  batch_posts = by_input plan sites fits epoch batch (inputs_of plan) (inputs_are plan numbered) ∙ sym in_parts
+  pub batch_posts : flat_map (messages_of routes epoch) (loads_in (inputs_of plan) batch) ≡ posts plan (map (entered epoch) batch)
+  batch_posts = by_input plan routes fits epoch batch (inputs_of plan) (inputs_are plan numbered) ∙ sym in_parts
 
-  pub batch_rises : CountsAppend → StampsByEdge
-      → IsSameBag (risen (flat_map (rises_of sites epoch) (loads_in (inputs_of plan) batch))) (stamps_of plan (posts plan (map (entered epoch) batch)) ++ map (input_stamp (epoch + 1)) (inputs_of plan))
-  batch_rises append by_edge p =
-      come_in plan sites fits epoch batch append by_edge (inputs_of plan) (inputs_are plan numbered) p
+  pub batch_changes : CountsAppend → StampsByEdge
+      → IsSameBag (occurring (flat_map (changes_of routes epoch) (loads_in (inputs_of plan) batch))) (stamps_of plan (posts plan (map (entered epoch) batch)) ++ map (input_stamp (epoch + 1)) (inputs_of plan))
+  batch_changes append by_edge p =
+      come_in plan routes fits epoch batch append by_edge (inputs_of plan) (inputs_are plan numbered) p
       ∙ (ap (λ l. occurrences p (stamps_of plan l) + occurrences p (map (input_stamp (epoch + 1)) (inputs_of plan))) (sym in_parts)
       ∙ sym (append p (stamps_of plan (posts plan (map (entered epoch) batch))) (map (input_stamp (epoch + 1)) (inputs_of plan))))

@@ -17,18 +17,18 @@ use Rattle.td_machine.specs.Steps.{posts, posted, stamped, sending_times, edges_
 use Rattle.td_machine.specs.AtOnce.{fresh, stamped_at}
 use Rattle.td_machine.specs.ByEdge.{times_from, stamps_by_edge, stamp_on}
 use Rattle.td_shard.specs.declared.shard.Shard.{Shard}
-use Rattle.td_core.specs.declared.hall.Floor.{Floor}
+use Rattle.td_core.specs.declared.hall.Parts.{Parts}
 use Rattle.td_shard.specs.declared.outlet.Outlet.{Outlet}
-use Rattle.td_core.specs.declared.hall.Sites.{Sites}
-use Rattle.td_core.specs.Sites.{IsSites, outlet_of, outlets_of, kind_in, bound_in}
+use Rattle.td_core.specs.declared.hall.Routes.{Routes}
+use Rattle.td_core.specs.Routes.{IsRoutes, outlet_of, outlets_of, kind_in, bound_in}
 use Rattle.td_core.specs.Posted.{stamp_on_outlet, stamps_on, mails_with, IsPosted, IsRoomier, HaveRoom, count_of, runs_of}
 use Rattle.td_shard.specs.Messages.{on_each, on_outlet}
 use Rattle.td_core.specs.Given.{IsUntouched}
 use Rattle.td_core.specs.Delivered.{IsSent}
 use Rattle.td_core.proofs.CloseSteps.{CountsAppend}
-use Rattle.td_core.proofs.PostingSteps.{roomier_then_posted, none_posted as none_posts}
-use Rattle.td_core.specs.declared.posting.Rise.{Rise}
-use Rattle.td_core.proofs.Rises.{rise_on}
+use Rattle.td_core.proofs.PostSteps.{roomier_then_posted, none_posted as none_posts}
+use Rattle.td_core.specs.declared.post.Change.{Change}
+use Rattle.td_core.proofs.Changes.{change_on}
 use Rattle.td_core.proofs.PostRuns.{room_weaker}
 
 map_map : {X Y Z : Type 0} (f : X → Y) (g : Y → Z) (xs : List X) → map g (map f xs) ≡ map (λ x. g (f x)) xs
@@ -71,8 +71,8 @@ module _ (plan : List Line) (v : ℕ) (t : Timestamp) where
         by (o ∷ os) k = (k.0, by os k.1)
 
 -- what is looked up is the plan's
-pub looked_up : (plan : List Line) (sites : Sites) → IsSites plan sites → (v : ℕ) (t : Timestamp) → sending_times (kind_in sites v) (bound_in sites v) t ≡ times_from plan v t
-looked_up plan sites is v t = λ i. sending_times (is.kind v i) (is.bound v i) t
+pub looked_up : (plan : List Line) (routes : Routes) → IsRoutes plan routes → (v : ℕ) (t : Timestamp) → sending_times (kind_in routes v) (bound_in routes v) t ≡ times_from plan v t
+looked_up plan routes is v t = λ i. sending_times (is.kind v i) (is.bound v i) t
 
 -- NEW RECORDS are no more than all, and of each shard no more
 pub fewer : (seen : List Stamped) (v : ℕ) (t : Timestamp) (recs : List Rec) → length (fresh seen v t recs) ≤ length recs
@@ -140,8 +140,8 @@ module _ (append : CountsAppend) (outs : List Outlet) (t : Timestamp) where
   -- fewer of them are there to be taken off
   pub enough_on : (many few : ℕ) (old now : List Stamp) → few ≤ many → IsSameBag now (stamps_on outs t many ++ old) → (p : Stamp) → occurrences p (stamps_on outs t few) ≤ occurrences p now
   enough_on many few old now less on p =
-      let parts : few + (many - few) ≡ many = omega (arith, less) in
-      let two = ap (λ n. occurrences p (stamps_on outs t n)) (sym parts) ∙ in_two p outs few (many - few) in
+      let fields : few + (many - few) ≡ many = omega (arith, less) in
+      let two = ap (λ n. occurrences p (stamps_on outs t n)) (sym fields) ∙ in_two p outs few (many - few) in
       let all = on p ∙ append p (stamps_on outs t many) old in
       omega (arith, two, all)
 
@@ -149,8 +149,8 @@ module _ (append : CountsAppend) (outs : List Outlet) (t : Timestamp) where
   pub surplus_off : (many few : ℕ) (old now new : List Stamp) → few ≤ many → IsSameBag now (stamps_on outs t many ++ old) → IsSameBag now (stamps_on outs t (many - few) ++ new)
       → IsSameBag new (stamps_on outs t few ++ old)
   surplus_off many few old now new less on off p =
-      let parts : few + (many - few) ≡ many = omega (arith, less) in
-      let two = ap (λ n. occurrences p (stamps_on outs t n)) (sym parts) ∙ in_two p outs few (many - few) in
+      let fields : few + (many - few) ≡ many = omega (arith, less) in
+      let two = ap (λ n. occurrences p (stamps_on outs t n)) (sym fields) ∙ in_two p outs few (many - few) in
       let all = on p ∙ append p (stamps_on outs t many) old in
       let left = off p ∙ append p (stamps_on outs t (many - few)) new in
       let these = append p (stamps_on outs t few) old in
@@ -163,25 +163,25 @@ module _ (append : CountsAppend) (outs : List Outlet) (t : Timestamp) where
       omega (arith, all, left)
 
 -- WHAT WAS SENT
-pub none_sent : (old : Floor) (v : ℕ) (t : Timestamp) → times_from old.table.plan v t ≡ [] → (sent : List Rec) → IsSent v t sent old.seen old.outputs old old
+pub none_sent : (old : Parts) (v : ℕ) (t : Timestamp) → times_from old.table.plan v t ≡ [] → (sent : List Rec) → IsSent v t sent old.seen old.outputs old old
 none_sent old v t e sent = record {
-  parts = refl;
+  fields = refl;
   plan = refl;
   stamps = λ p. ap (λ l. occurrences p (l ++ old.table.stamps)) (sym (none_active old.table.plan v t e (length sent)));
   mails = sym (none_posts (length old.shards.items) 0 old.shards.items) ∙ ap (λ cs. mails_with cs old.shards.items) (sym (none_posted old.table.plan v t e sent));
   waiting = refl;
 }
 
-module _ (old new : Floor) (v : ℕ) (t later : Timestamp) (e : times_from old.table.plan v t ≡ later ∷ []) (outs : List Outlet) (outs_are : outs ≡ outlets_of old.table.plan v) where
+module _ (old new : Parts) (v : ℕ) (t later : Timestamp) (e : times_from old.table.plan v t ≡ later ∷ []) (outs : List Outlet) (outs_are : outs ≡ outlets_of old.table.plan v) where
   pub sent_then : (sent : List Rec) (seen : List Stamped) (outputs : List OutputAt) (mid : List Shard)
       → new ≡ record old { table = new.table; shards = new.shards; seen = seen; outputs = outputs }
       → new.table.plan ≡ old.table.plan → IsSameBag new.table.stamps (stamps_on outs later (length sent) ++ old.table.stamps)
       → IsRoomier old.shards.items mid → IsPosted (on_each outs later sent) mid new.shards.items
       → IsSent v t sent seen outputs old new
-  sent_then sent seen outputs mid parts plan stamps room posted =
+  sent_then sent seen outputs mid fields plan stamps room posted =
       let all = roomier_then_posted (on_each outs later sent) old.shards.items mid new.shards.items room posted in
       record {
-        parts = parts;
+        fields = fields;
         plan = plan;
         stamps = λ p. stamps p ∙ ap (λ l. occurrences p (l ++ old.table.stamps)) (ap (λ os. stamps_on os later (length sent)) outs_are ∙ sym (active_on old.table.plan v t later e (length sent)));
         mails = all.mails ∙ ap (λ cs. mails_with cs old.shards.items) (ap (λ os. on_each os later sent) outs_are ∙ sym (posted_on old.table.plan v t later e sent));
@@ -189,12 +189,12 @@ module _ (old new : Floor) (v : ℕ) (t later : Timestamp) (e : times_from old.t
       }
 
 -- NOTHING BUT MORE ROOM
-pub untouched : (old new : Floor) → new ≡ record old { table = new.table; shards = new.shards } → new.table.plan ≡ old.table.plan
+pub untouched : (old new : Parts) → new ≡ record old { table = new.table; shards = new.shards } → new.table.plan ≡ old.table.plan
     → IsSameBag new.table.stamps old.table.stamps → IsRoomier old.shards.items new.shards.items → IsUntouched old new
-untouched old new parts plan stamps room = record { parts = parts; plan = plan; stamps = stamps; shards = room }
+untouched old new fields plan stamps room = record { fields = fields; plan = plan; stamps = stamps; shards = room }
 
--- each rise on an outlet is of the plan
-pub rises_of_plan : (plan : List Line) (t : Timestamp) (times : ℕ) (outs : List Outlet) → AllByRecursion (λ o. IsOf plan (stamp_on_outlet t o)) outs
-    → AllByRecursion (λ (r : Rise). IsOf plan r.stamp) (map (rise_on t times) outs)
-rises_of_plan plan t times [] h = tt
-rises_of_plan plan t times (o ∷ os) h = (h.0, rises_of_plan plan t times os h.1)
+-- each change on an outlet is of the plan
+pub changes_of_plan : (plan : List Line) (t : Timestamp) (times : ℕ) (outs : List Outlet) → AllByRecursion (λ o. IsOf plan (stamp_on_outlet t o)) outs
+    → AllByRecursion (λ (r : Change). IsOf plan r.stamp) (map (change_on t times) outs)
+changes_of_plan plan t times [] h = tt
+changes_of_plan plan t times (o ∷ os) h = (h.0, changes_of_plan plan t times os h.1)

@@ -5,7 +5,7 @@ use Rattle.std.proofs.lemmas.List.{length-map}
 use Rattle.td_machine.specs.declared.records.Message.{Message}
 use Rattle.td_machine.specs.State.{shard_of_key}
 use Rattle.td_shard.specs.declared.shard.Shard.{Shard}
-use Rattle.td_core.specs.Floor.{IsShard}
+use Rattle.td_core.specs.Parts.{IsShard}
 use Rattle.td_core.specs.Posted.{of_shard, mails, mails_with, waits}
 use Rattle.td_core.proofs.OutTasks.{same_number}
 use Rattle.td_core.proofs.WaitsAll.{IsWaiting}

@@ -10,7 +10,7 @@ use Rattle.td_machine.specs.State.{message_cmp, shard_of_key}
 use Rattle.td_machine.specs.Steps.{coming}
 use Rattle.td_shard.specs.declared.shard.Shard.{Shard}
 use Rattle.td_shard.specs.Messages.{IsBeside}
-use Rattle.td_core.specs.Floor.{in_mailboxes}
+use Rattle.td_core.specs.Parts.{in_mailboxes}
 use Rattle.td_core.specs.Posted.{mails}
 use Rattle.td_core.specs.Taking.{changed_at}
 use Rattle.td_core.proofs.ShardParts.{IsMail}

@@ -38,8 +38,8 @@ use Rattle.td_shard.specs.declared.waiting.Noted.{Noted}
 use Rattle.td_shard.specs.declared.shard.Shard.{Shard}
 use Rattle.td_shard.specs.Asked.{AskedList, noted_cmp, noted_at, items_at}
 use Rattle.td_shard.specs.ProvedOrders.{noted_total}
-use Rattle.td_core.specs.declared.hall.Floor.{Floor}
-use Rattle.td_core.specs.Floor.{state_of, IsHall, IsShard, empty_shard, in_mailboxes, with_tasks, taken_up, waiting_at, asked_in, asked_of_shard}
+use Rattle.td_core.specs.declared.hall.Parts.{Parts}
+use Rattle.td_core.specs.Parts.{state_of, IsHall, IsShard, empty_shard, in_mailboxes, with_tasks, taken_up, waiting_at, asked_in, asked_of_shard}
 use Rattle.td_core.specs.Posted.{mails}
 use Rattle.td_core.specs.Taking.{AreAsked, IsReady, AreReady, IsPicked, changed_at, stamp_of_noted}
 use Rattle.td_core.proofs.NotifyLists.{there_is, removed, is_other}
@@ -255,23 +255,23 @@ module _ (laws : BagLaws message_cmp) (apart : IsAntisymmetric time_cmp) (n : No
       subst (λ m. AllByRecursion (λ a. shard_of_key workers a.key ≡ m) items) (sym next) (items_own workers (k + 1) ws i (omega (arith, l)) are.1 e)
 
 -- A HALL from which a task is taken
-module _ (answers : Answers) (floor : Floor) (inv : IsHall answers floor) (bags : BagLaws message_cmp) (sets : SetLaws notification_cmp) (apart : IsAntisymmetric time_cmp)
-    (frontier : InAnyOrder) (lists : ListsInOrder (state_of floor)) (tasks : TasksInOrder (state_of floor)) (numbers : NumbersInOrder (state_of floor)) where
+module _ (answers : Answers) (parts : Parts) (inv : IsHall answers parts) (bags : BagLaws message_cmp) (sets : SetLaws notification_cmp) (apart : IsAntisymmetric time_cmp)
+    (frontier : InAnyOrder) (lists : ListsInOrder (state_of parts)) (tasks : TasksInOrder (state_of parts)) (numbers : NumbersInOrder (state_of parts)) where
   abbrev S : HallState
-  S = state_of floor
+  S = state_of parts
 
   abbrev shards : List Shard
-  shards = floor.shards.items
+  shards = parts.shards.items
 
   abbrev W : ℕ
   W = length shards
 
   -- in the frontier by the table, and of the state
-  pub in_state : (n : Noted) → IsReady floor.table n → Frontier S (stamp_at n.vertex n.time)
-  in_state n h = frontier S.plan floor.table.stamps (active S) (stamp_at n.vertex n.time) inv.counted h
+  pub in_state : (n : Noted) → IsReady parts.table n → Frontier S (stamp_at n.vertex n.time)
+  in_state n h = frontier S.plan parts.table.stamps (active S) (stamp_at n.vertex n.time) inv.counted h
 
-  pub in_table : (n : Noted) → Frontier S (stamp_at n.vertex n.time) → IsReady floor.table n
-  in_table n h = frontier S.plan (active S) floor.table.stamps (stamp_at n.vertex n.time) (λ p. sym (inv.counted p)) h
+  pub in_table : (n : Noted) → Frontier S (stamp_at n.vertex n.time) → IsReady parts.table n
+  in_table n h = frontier S.plan (active S) parts.table.stamps (stamp_at n.vertex n.time) (λ p. sym (inv.counted p)) h
 
   -- what is asked for in a shard
   pub asked_there : (s v : ℕ) (t : Timestamp) (d : Shard) → s < W → is_asked S s v t ≡ is_some (items_at (get_or shards s d).waiting v t)
@@ -305,13 +305,13 @@ module _ (answers : Answers) (floor : Floor) (inv : IsHall answers floor) (bags 
 
   -- NONE at a shard that has no candidate
   module _ (none : NoneToTake) (s : ℕ) (free : is_out S s ≡ false) where
-    pub none_here : s < W → HoldsAt (λ x. IsPicked floor.table x 0 None) shards s → (task : Task) → MayTake S s task → ⊥
+    pub none_here : s < W → HoldsAt (λ x. IsPicked parts.table x 0 None) shards s → (task : Task) → MayTake S s task → ⊥
     none_here l picked = none S s
-        (in_bag message_cmp (λ c. shard_of_key W c.rec.key ≡ s → ⊥) (in_mailboxes shards ++ with_tasks floor.out.items)
-        (of_two (λ c. shard_of_key W c.rec.key ≡ s → ⊥) (in_mailboxes shards) (with_tasks floor.out.items)
+        (in_bag message_cmp (λ c. shard_of_key W c.rec.key ≡ s → ⊥) (in_mailboxes shards ++ with_tasks parts.out.items)
+        (of_two (λ c. shard_of_key W c.rec.key ≡ s → ⊥) (in_mailboxes shards) (with_tasks parts.out.items)
         (subst (AllByRecursion (λ c. shard_of_key W c.rec.key ≡ s → ⊥)) (sym (flat_mails shards)) (subst (λ m. AllByRecursion (λ c. shard_of_key W c.rec.key ≡ m → ⊥) (flat (mails shards))) zero_too (none_of W 0 (mails shards) s no_mail (mail_of W 0 shards inv.shards))))
-        (tasks_none s floor.out.items tasks.there free)))
-        (λ v t is ready. none_ready v t apart floor.table (get_or shards s empty_shard).waiting (picked empty_shard).1 (sym (asked_there s v t empty_shard l) ∙ is) (in_table (noted_at v t) ready))
+        (tasks_none s parts.out.items tasks.there free)))
+        (λ v t is ready. none_ready v t apart parts.table (get_or shards s empty_shard).waiting (picked empty_shard).1 (sym (asked_there s v t empty_shard l) ∙ is) (in_table (noted_at v t) ready))
       where
         zero_too : 0 + s ≡ s
         zero_too = omega arith
@@ -325,16 +325,16 @@ module _ (answers : Answers) (floor : Floor) (inv : IsHall answers floor) (bags 
         (λ v t is ready. let no = in_set sets (asks s v t) (flat_map asked_in (enumerate_from 0 shards)) ∙ nowhere v t s 0 shards (inr (omega (arith, l))) in absurd (true≢false (sym is ∙ no)))
 
   -- THE POINTSTAMPS of what is asked for are of the plan
-  pub noted_of_plan : AllByRecursion (IsOf S.plan) (active S) → (s : ℕ) (d : Shard) → s < W → AllByRecursion (λ n. IsOf floor.table.plan (stamp_of_noted n)) (map (λ w. w.0) (get_or shards s d).waiting)
-  noted_of_plan all s d l = every_key (λ n. IsOf floor.table.plan (stamp_of_noted n)) (map (λ w. w.0) (get_or shards s d).waiting)
-      (λ b a n e. in_asked apart (λ v t. IsOf floor.table.plan (stamp_at v t)) (asks s n.vertex n.time) S.asked (asked_there s n.vertex n.time d l ∙ key_there n (get_or shards s d).waiting b a e) asked_of_plan)
+  pub noted_of_plan : AllByRecursion (IsOf S.plan) (active S) → (s : ℕ) (d : Shard) → s < W → AllByRecursion (λ n. IsOf parts.table.plan (stamp_of_noted n)) (map (λ w. w.0) (get_or shards s d).waiting)
+  noted_of_plan all s d l = every_key (λ n. IsOf parts.table.plan (stamp_of_noted n)) (map (λ w. w.0) (get_or shards s d).waiting)
+      (λ b a n e. in_asked apart (λ v t. IsOf parts.table.plan (stamp_at v t)) (asks s n.vertex n.time) S.asked (asked_there s n.vertex n.time d l ∙ key_there n (get_or shards s d).waiting b a e) asked_of_plan)
     where
       from_map : {X : Type 0} (P : Stamp → Type 0) (f : X → Stamp) (xs : List X) → AllByRecursion P (map f xs) → AllByRecursion (λ x. P (f x)) xs
       from_map P f [] h = tt
       from_map P f (x ∷ xs) h = (h.0, from_map P f xs h.1)
 
-      asked_of_plan : AllByRecursion (λ (y : Notification). IsOf floor.table.plan (stamp_at y.vertex y.time)) S.asked
-      asked_of_plan = from_map (IsOf floor.table.plan) stamp_of_asked S.asked (of_first (IsOf floor.table.plan) (map stamp_of_asked S.asked) _ (of_second (IsOf floor.table.plan) (map (stamp_of_message S.plan) S.messages) _ all))
+      asked_of_plan : AllByRecursion (λ (y : Notification). IsOf parts.table.plan (stamp_at y.vertex y.time)) S.asked
+      asked_of_plan = from_map (IsOf parts.table.plan) stamp_of_asked S.asked (of_first (IsOf parts.table.plan) (map stamp_of_asked S.asked) _ (of_second (IsOf parts.table.plan) (map (stamp_of_message S.plan) S.messages) _ all))
 
   -- ALL THAT IS ASKED for there: it is active, and at vertices that are notified
   module _ (contains : (p : Stamp) (xs : List Stamp) → Contains xs p ↔ (0 < occurrences p xs)) (notified : AllByRecursion (λ (a : Notification). is_notified (kind_of S.plan a.vertex) ≡ true) S.asked) where
@@ -355,14 +355,14 @@ module _ (answers : Answers) (floor : Floor) (inv : IsHall answers floor) (bags 
           (λ a h. after (stamp_of_asked a) (stamp_of_asked x ∷ []) (map stamp_of_asked ns) h) ns (each_among ns),
     )
 
-    each_active : AllByRecursion (λ (a : Notification). Contains floor.table.stamps (stamp_at a.vertex a.time)) S.asked
-    each_active = weaker (λ (a : Notification). Contains (map stamp_of_asked S.asked) (stamp_of_asked a)) (λ (a : Notification). Contains floor.table.stamps (stamp_at a.vertex a.time)) one S.asked (each_among S.asked)
+    each_active : AllByRecursion (λ (a : Notification). Contains parts.table.stamps (stamp_at a.vertex a.time)) S.asked
+    each_active = weaker (λ (a : Notification). Contains (map stamp_of_asked S.asked) (stamp_of_asked a)) (λ (a : Notification). Contains parts.table.stamps (stamp_at a.vertex a.time)) one S.asked (each_among S.asked)
       where
-        one : (a : Notification) → Contains (map stamp_of_asked S.asked) (stamp_of_asked a) → Contains floor.table.stamps (stamp_at a.vertex a.time)
+        one : (a : Notification) → Contains (map stamp_of_asked S.asked) (stamp_of_asked a) → Contains parts.table.stamps (stamp_at a.vertex a.time)
         one a h =
             let p = stamp_of_asked a in
             let some = (contains p (active S)).0 (after p (map (stamp_of_message S.plan) S.messages) _ (before p (map stamp_of_asked S.asked) _ h)) in
-            (contains p floor.table.stamps).1 (subst (λ n. 0 < n) (sym (inv.counted p)) some)
+            (contains p parts.table.stamps).1 (subst (λ n. 0 < n) (sym (inv.counted p)) some)
 
     once_at : (k i : ℕ) (xs : List Shard) (d : Shard) → i < length xs → AllByRecursion (IsShard W) (enumerate_from k xs) → IsStrictlySortedBy noted_cmp (keys_of (get_or xs i d).waiting)
     once_at k i [] d l are = absurd (omega (arith, l))
@@ -375,10 +375,10 @@ module _ (answers : Answers) (floor : Floor) (inv : IsHall answers floor) (bags 
     of_key P s d l all = every_key (λ n. P n.vertex n.time) (map (λ w. w.0) (get_or shards s d).waiting)
         (λ b a n e. in_asked apart P (asks s n.vertex n.time) S.asked (asked_there s n.vertex n.time d l ∙ key_there n (get_or shards s d).waiting b a e) all)
 
-    pub are_asked : AllByRecursion (IsOf S.plan) (active S) → (s : ℕ) (d : Shard) → s < W → AreAsked floor.table (map (λ w. w.0) (get_or shards s d).waiting)
+    pub are_asked : AllByRecursion (IsOf S.plan) (active S) → (s : ℕ) (d : Shard) → s < W → AreAsked parts.table (map (λ w. w.0) (get_or shards s d).waiting)
     are_asked all s d l = record {
       of_plan = noted_of_plan all s d l;
-      are_active = of_key (λ v t. Contains floor.table.stamps (stamp_at v t)) s d l each_active;
+      are_active = of_key (λ v t. Contains parts.table.stamps (stamp_at v t)) s d l each_active;
       notified = of_key (λ v t. is_notified (kind_of S.plan v) ≡ true) s d l notified;
       once = once_at 0 s shards d l inv.shards;
     }

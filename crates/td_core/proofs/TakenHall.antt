@@ -37,14 +37,14 @@ use Rattle.td_shard.specs.declared.waiting.Noted.{Noted}
 use Rattle.td_shard.specs.declared.shard.Shard.{Shard}
 use Rattle.td_shard.specs.Asked.{noted_cmp, items_at}
 use Rattle.td_shard.specs.Messages.{IsBeside, task_at, left_at}
-use Rattle.td_core.specs.declared.hall.Floor.{Floor}
+use Rattle.td_core.specs.declared.hall.Parts.{Parts}
 use Rattle.td_core.specs.declared.take.Candidate.{Candidate}
 use Rattle.td_core.specs.declared.take.Candidate.TheVariants as candidates
-use Rattle.td_core.specs.Floor.{state_of, IsHall, IsShard, empty_shard, in_mailboxes, with_tasks, taken_up}
+use Rattle.td_core.specs.Parts.{state_of, IsHall, IsShard, empty_shard, in_mailboxes, with_tasks, taken_up}
 use Rattle.td_core.specs.Posted.{mails, waits}
 use Rattle.td_core.specs.Taking.{IsReady, IsPicked, IsTaskFor, IsSame, IsPickTaken, IsPickRefused, IsTakeRefused, IsLastTake, mails_without, changed_at}
 use Rattle.td_core.proofs.CollectSteps.{ReachedByStep}
-use Rattle.td_core.proofs.PostingSteps.{as_many_waits, same_buffered, same_asked}
+use Rattle.td_core.proofs.PostSteps.{as_many_waits, same_buffered, same_asked}
 use Rattle.td_core.proofs.ShardParts.{IsMail, mail_of, waiting_of, united}
 use Rattle.td_core.proofs.Waits.{waiting_all}
 use Rattle.td_core.proofs.WaitsAll.{waiting_by_lists, IsWaiting}
@@ -94,13 +94,13 @@ pub some_of : {X : Type 0} (o : Option X) → is_some o ≡ true → (x : X) × 
 some_of None e = absurd (cc)
 some_of (Some x) e = (x, refl)
 
-module _ (answers : Answers) (floor : Floor) (inv : IsHall answers floor) (bags : BagLaws message_cmp) (sets : SetLaws notification_cmp) (apart : IsAntisymmetric time_cmp)
-    (frontier : InAnyOrder) (lists : ListsInOrder (state_of floor)) (tasks : TasksInOrder (state_of floor)) (numbers : NumbersInOrder (state_of floor)) where
+module _ (answers : Answers) (parts : Parts) (inv : IsHall answers parts) (bags : BagLaws message_cmp) (sets : SetLaws notification_cmp) (apart : IsAntisymmetric time_cmp)
+    (frontier : InAnyOrder) (lists : ListsInOrder (state_of parts)) (tasks : TasksInOrder (state_of parts)) (numbers : NumbersInOrder (state_of parts)) where
   abbrev S : HallState
-  S = state_of floor
+  S = state_of parts
 
   abbrev shards : List Shard
-  shards = floor.shards.items
+  shards = parts.shards.items
 
   abbrev W : ℕ
   W = length shards
@@ -148,7 +148,7 @@ module _ (answers : Answers) (floor : Floor) (inv : IsHall answers floor) (bags 
         let least = some here.mailbox.messages place under in
         let most = few here.mailbox.messages place in
         let others = flat (changed_at (left_at place) s (mails shards)) in
-        let tasks_of = with_tasks floor.out.items in (
+        let tasks_of = with_tasks parts.out.items in (
           omega (arith, many, least),
           omega (arith, many, most),
           key_of_recs W s v port t recs (subst (AllByRecursion (IsKeyOf W s)) (sym are) (of_first (IsKeyOf W s) (task_at place here.mailbox.messages) (left_at place here.mailbox.messages) (both_own place under))),
@@ -160,7 +160,7 @@ module _ (answers : Answers) (floor : Floor) (inv : IsHall answers floor) (bags 
         )
 
     -- A NOTIFICATION that is in the frontier may be taken
-    pub may_notify : WaitsByPlace → WhatWaits → (n : Noted) (before after : List Noted) → map (λ w. w.0) here.waiting ≡ before ++ n ∷ after → IsReady floor.table n
+    pub may_notify : WaitsByPlace → WhatWaits → (n : Noted) (before after : List Noted) → map (λ w. w.0) here.waiting ≡ before ++ n ∷ after → IsReady parts.table n
         → (keys : Content) → ((items : List Arrival) → items_at here.waiting n.vertex n.time ≡ Some items → keys ≡ notification (map (with_state_of S n.vertex n.time) (groups items)))
         → IsContent S s n.vertex n.time keys
     may_notify place waits_for n before after e ready keys are =
@@ -179,14 +179,14 @@ module _ (answers : Answers) (floor : Floor) (inv : IsHall answers floor) (bags 
         (subst (λ m. AllByRecursion (λ a. shard_of_key W a.key ≡ m) items) (sym zero_too) (items_own bags apart n items W 0 ws s short (waiting_of W 0 shards inv.shards) found))
         (in_bag message_cmp _ rest (all_else bags apart n items S s place 0 ws s zero_too (waiting_of W 0 shards inv.shards)))).0 in
         subst (IsContent S s n.vertex n.time) (sym (are items at.1)) (
-          asked_there answers floor inv bags sets apart frontier lists tasks numbers s n.vertex n.time empty_shard l ∙ asked,
-          in_state answers floor inv bags sets apart frontier lists tasks numbers n ready,
+          asked_there answers parts inv bags sets apart frontier lists tasks numbers s n.vertex n.time empty_shard l ∙ asked,
+          in_state answers parts inv bags sets apart frontier lists tasks numbers n ready,
           sym waiting_for,
         )
 
   -- THE STATE when a task was taken
-  module _ (s : ℕ) (l : s < W) (new : Floor) (task : Task) (number : task.number ≡ floor.taken + 1)
-      (parts : new ≡ record floor { shards = new.shards; out = new.out; taken = floor.taken + 1 }) (out : new.out.items ≡ floor.out.items ++ task ∷ [])
+  module _ (s : ℕ) (l : s < W) (new : Parts) (task : Task) (number : task.number ≡ parts.taken + 1)
+      (fields : new ≡ record parts { shards = new.shards; out = new.out; taken = parts.taken + 1 }) (out : new.out.items ≡ parts.out.items ++ task ∷ [])
       (waiting_same : waits new.shards.items ≡ waits shards)
       (mail : (zs : List Message) → two (flat (mails shards)) zs ≡ two (taken_up task.vertex task.time task.content) (two (flat (mails new.shards.items)) zs)) where
     abbrev its : List Message
@@ -194,52 +194,52 @@ module _ (answers : Answers) (floor : Floor) (inv : IsHall answers floor) (bags 
 
     same_messages : bag_of message_cmp (in_mailboxes new.shards.items ++ with_tasks new.out.items) ≡ S.messages
     same_messages =
-        let wo = with_tasks floor.out.items in
+        let wo = with_tasks parts.out.items in
         let fn = flat (mails new.shards.items) in
-        (λ i. bag_of message_cmp (flat_mails new.shards.items i ++ (ap with_tasks out ∙ with_one_more floor.out.items task) i))
+        (λ i. bag_of message_cmp (flat_mails new.shards.items i ++ (ap with_tasks out ∙ with_one_more parts.out.items task) i))
         ∙ (by_mails (mails new.shards.items) (wo ++ its)
         ∙ (ap (two fn) (bags.append wo its [] ∙ bags.swaps wo its [])
         ∙ (bags.swaps fn its (two wo [])
         ∙ (sym (mail (two wo [])) ∙ (sym (by_mails (mails shards) wo) ∙ ap (λ m. bag_of message_cmp (m ++ wo)) (sym (flat_mails shards)))))))
 
-    below : AllByRecursion (λ (t : Task). t.number < task.number) floor.out.items
-    below = weaker (StillThere S) (λ (t : Task). t.number < task.number) (λ t still. let most = still.1 in omega (arith, most, number)) floor.out.items tasks.there
+    below : AllByRecursion (λ (t : Task). t.number < task.number) parts.out.items
+    below = weaker (StillThere S) (λ (t : Task). t.number < task.number) (λ t still. let most = still.1 in omega (arith, most, number)) parts.out.items tasks.there
 
     pub stepped : state_of new ≡ with_task S task
-    stepped = ap state_of parts ∙ (λ i. record S {
+    stepped = ap state_of fields ∙ (λ i. record S {
       workers = as_many_waits shards new.shards.items waiting_same i;
       messages = same_messages i;
       buffered = bag_of message_cmp (same_buffered shards new.shards.items waiting_same i);
       asked = set_of notification_cmp (same_asked 0 shards new.shards.items waiting_same i);
-      out = (out ∙ sym (inserted_last task floor.out.items below)) i;
-      taken = floor.taken + 1;
+      out = (out ∙ sym (inserted_last task parts.out.items below)) i;
+      taken = parts.taken + 1;
     })
 
     pub kept : ReachedByStep answers → Takes S s (has_taken (Some task)) (with_task S task) → AllByRecursion (IsMail W) (enumerate_from 0 (mails new.shards.items)) → IsHall answers new
-    kept steps step own = subst (IsHall answers) (sym parts) (record {
-      reached = subst (λ f. IsReached answers (state_of f)) parts (subst (IsReached answers) (sym stepped) (steps S (with_task S task) (taking s) (has_taken (Some task)) inv.reached step));
-      counted = subst (λ T. IsSameBag floor.table.stamps (active T)) (sym stepped ∙ ap state_of parts) inv.counted;
+    kept steps step own = subst (IsHall answers) (sym fields) (record {
+      reached = subst (λ f. IsReached answers (state_of f)) fields (subst (IsReached answers) (sym stepped) (steps S (with_task S task) (taking s) (has_taken (Some task)) inv.reached step));
+      counted = subst (λ T. IsSameBag parts.table.stamps (active T)) (sym stepped ∙ ap state_of fields) inv.counted;
       inputs = inv.inputs;
       shards = subst (λ n. AllByRecursion (IsShard n) (enumerate_from 0 new.shards.items)) (sym (as_many_waits shards new.shards.items waiting_same))
           (united W 0 new.shards.items own (subst (λ ws. AllByRecursion (IsWaiting W) (enumerate_from 0 ws)) (sym waiting_same) (waiting_of W 0 shards inv.shards)));
       few = subst (λ n. n ≤ 16) (sym (as_many_waits shards new.shards.items waiting_same)) inv.few;
       next = inv.next;
-      sites = inv.sites;
+      routes = inv.routes;
     })
 
   -- A FLOOR with no more than room is the same hall
-  pub same_state : (new : Floor) → IsSame floor new → state_of new ≡ S
-  same_state new is = ap state_of is.parts ∙ (λ i. record S { messages = bag_of message_cmp (in_mailboxes shards ++ with_tasks (is.out i)); out = is.out i })
+  pub same_state : (new : Parts) → IsSame parts new → state_of new ≡ S
+  same_state new is = ap state_of is.fields ∙ (λ i. record S { messages = bag_of message_cmp (in_mailboxes shards ++ with_tasks (is.out i)); out = is.out i })
 
-  pub same_hall : (new : Floor) → IsSame floor new → IsHall answers new
-  same_hall new is = subst (IsHall answers) (sym is.parts) (record {
-    reached = subst (IsReached answers) (sym (same_state new is) ∙ ap state_of is.parts) inv.reached;
-    counted = subst (λ T. IsSameBag floor.table.stamps (active T)) (sym (same_state new is) ∙ ap state_of is.parts) inv.counted;
+  pub same_hall : (new : Parts) → IsSame parts new → IsHall answers new
+  same_hall new is = subst (IsHall answers) (sym is.fields) (record {
+    reached = subst (IsReached answers) (sym (same_state new is) ∙ ap state_of is.fields) inv.reached;
+    counted = subst (λ T. IsSameBag parts.table.stamps (active T)) (sym (same_state new is) ∙ ap state_of is.fields) inv.counted;
     inputs = inv.inputs;
     shards = inv.shards;
     few = inv.few;
     next = inv.next;
-    sites = inv.sites;
+    routes = inv.routes;
   })
 
   -- WHAT A TAKE ANSWERS
@@ -248,7 +248,7 @@ module _ (answers : Answers) (floor : Floor) (inv : IsHall answers floor) (bags 
     abbrev at_shard : Shard
     at_shard = get_or shards s empty_shard
 
-    pub may_take : (c : Candidate) (task : Task) → IsPicked floor.table at_shard pick (Some c) → IsTaskFor floor s at_shard c task → MayTake S s task
+    pub may_take : (c : Candidate) (task : Task) → IsPicked parts.table at_shard pick (Some c) → IsTaskFor parts s at_shard c task → MayTake S s task
     may_take (candidates.Message place) task picked is = record {
       shard = is.shard_is;
       number = is.number;
@@ -267,13 +267,13 @@ module _ (answers : Answers) (floor : Floor) (inv : IsHall answers floor) (bags 
     nothing = record { vertex = 0; port = 0; time = record { epoch = 0; turns = [] }; rec = record { key = 0; val = pos 0 } }
 
     -- there is a task for each candidate
-    pub some_task : (c : Candidate) → IsPicked floor.table at_shard pick (Some c) → (task : Task) × MayTake S s task
+    pub some_task : (c : Candidate) → IsPicked parts.table at_shard pick (Some c) → (task : Task) × MayTake S s task
     some_task (candidates.Message place) picked =
         let ms = at_shard.mailbox.messages in
         let m = get_or ms place nothing in
         let found : slice_get ms place ≡ Some m = slice_get-get_or ms place nothing picked.0 in
         let recs = map (λ (x : Message). x.rec) (task_at place ms) in (
-          record { shard = s; number = floor.taken + 1; vertex = m.vertex; kind = kind_of floor.table.plan m.vertex; time = m.time; content = messages m.port recs },
+          record { shard = s; number = parts.taken + 1; vertex = m.vertex; kind = kind_of parts.table.plan m.vertex; time = m.time; content = messages m.port recs },
           record {
             shard = refl;
             number = refl;
@@ -282,27 +282,27 @@ module _ (answers : Answers) (floor : Floor) (inv : IsHall answers floor) (bags 
           },
         )
     some_task (candidates.Notification n) picked = (
-      record { shard = s; number = floor.taken + 1; vertex = n.vertex; kind = kind_of floor.table.plan n.vertex; time = n.time; content = notification (to_notify S s n.vertex n.time) },
+      record { shard = s; number = parts.taken + 1; vertex = n.vertex; kind = kind_of parts.table.plan n.vertex; time = n.time; content = notification (to_notify S s n.vertex n.time) },
       record {
         shard = refl;
         number = refl;
         kind = refl;
         content = (
-          asked_there answers floor inv bags sets apart frontier lists tasks numbers s n.vertex n.time empty_shard l ∙ key_there n at_shard.waiting picked.1.0 picked.1.1 picked.1.3,
-          in_state answers floor inv bags sets apart frontier lists tasks numbers n picked.1.6,
+          asked_there answers parts inv bags sets apart frontier lists tasks numbers s n.vertex n.time empty_shard l ∙ key_there n at_shard.waiting picked.1.0 picked.1.1 picked.1.3,
+          in_state answers parts inv bags sets apart frontier lists tasks numbers n picked.1.6,
           refl,
         );
       },
     )
 
     -- a shard that has a candidate has a task, and the other way round
-    pub has_one : (r : Option Candidate) → HoldsAt (λ x. IsPicked floor.table x pick r) shards s → (IsTrue (is_some r) → (is_out S s ≡ false) × ((task : Task) × MayTake S s task))
+    pub has_one : (r : Option Candidate) → HoldsAt (λ x. IsPicked parts.table x pick r) shards s → (IsTrue (is_some r) → (is_out S s ≡ false) × ((task : Task) × MayTake S s task))
         × ((is_out S s ≡ false) × ((task : Task) × MayTake S s task) → IsTrue (is_some r))
-    has_one None picked = (λ t. absurd (true≢false (sym t)), λ h. absurd (none_here answers floor inv bags sets apart frontier lists tasks numbers none s free l picked h.1.0 h.1.1))
+    has_one None picked = (λ t. absurd (true≢false (sym t)), λ h. absurd (none_here answers parts inv bags sets apart frontier lists tasks numbers none s free l picked h.1.0 h.1.1))
     has_one (Some c) picked = (λ t. (free, some_task c (picked empty_shard)), λ h. refl)
 
     -- what is no longer in mailboxes is with the task
-    mail_moved : (c : Candidate) (new : Floor) (task : Task) → IsPicked floor.table at_shard pick (Some c) → IsTaskFor floor s at_shard c task → mails new.shards.items ≡ mails_without c s (mails shards)
+    mail_moved : (c : Candidate) (new : Parts) (task : Task) → IsPicked parts.table at_shard pick (Some c) → IsTaskFor parts s at_shard c task → mails new.shards.items ≡ mails_without c s (mails shards)
         → (zs : List Message) → two (flat (mails shards)) zs ≡ two (taken_up task.vertex task.time task.content) (two (flat (mails new.shards.items)) zs)
     mail_moved (candidates.Message place) new task picked is left zs =
         let its : taken_up task.vertex task.time task.content ≡ task_at place at_shard.mailbox.messages = ap (taken_up task.vertex task.time) is.content.2 ∙ is.content.3 in
@@ -312,7 +312,7 @@ module _ (answers : Answers) (floor : Floor) (inv : IsHall answers floor) (bags 
         let its : taken_up task.vertex task.time task.content ≡ [] = ap (taken_up task.vertex task.time) (is.content.2 at.0 at.1) in
         λ i. two (sym its i) (two (flat (sym left i)) zs)
 
-    own_mail : (c : Candidate) (new : Floor) → IsPicked floor.table at_shard pick (Some c) → mails new.shards.items ≡ mails_without c s (mails shards) → AllByRecursion (IsMail W) (enumerate_from 0 (mails new.shards.items))
+    own_mail : (c : Candidate) (new : Parts) → IsPicked parts.table at_shard pick (Some c) → mails new.shards.items ≡ mails_without c s (mails shards) → AllByRecursion (IsMail W) (enumerate_from 0 (mails new.shards.items))
     own_mail (candidates.Message place) new picked left =
         let zero_too : s ≡ 0 + s = omega arith in
         subst (λ ms. AllByRecursion (IsMail W) (enumerate_from 0 ms)) (sym left)
@@ -322,32 +322,32 @@ module _ (answers : Answers) (floor : Floor) (inv : IsHall answers floor) (bags 
         (mail_of W 0 shards inv.shards))
     own_mail (candidates.Notification n) new picked left = subst (λ ms. AllByRecursion (IsMail W) (enumerate_from 0 ms)) (sym left) (mail_of W 0 shards inv.shards)
 
-    module _ (new : Floor) where
-      taken_state : (task : Task) → IsPickTaken s pick floor new (Some task) → state_of new ≡ with_task S task
+    module _ (new : Parts) where
+      taken_state : (task : Task) → IsPickTaken s pick parts new (Some task) → state_of new ≡ with_task S task
       taken_state task t =
-          stepped s l new task (t.1 empty_shard).1.number t.2.parts t.2.out t.2.waiting (mail_moved t.0 new task (t.1 empty_shard).0 (t.1 empty_shard).1 t.2.mails)
+          stepped s l new task (t.1 empty_shard).1.number t.2.fields t.2.out t.2.waiting (mail_moved t.0 new task (t.1 empty_shard).0 (t.1 empty_shard).1 t.2.mails)
 
-      takes_it : (task : Task) → IsPickTaken s pick floor new (Some task) → Takes S s (has_taken (Some task)) (with_task S task)
+      takes_it : (task : Task) → IsPickTaken s pick parts new (Some task) → Takes S s (has_taken (Some task)) (with_task S task)
       takes_it task t = takes free task (may_take t.0 task (t.1 empty_shard).0 (t.1 empty_shard).1) t.3
 
-      pub answered : (r : Result (Option Task) HallError) → IfOk r (IsPickTaken s pick floor new) → IfOk r (λ task. Takes S s (has_taken task) (state_of new))
+      pub answered : (r : Result (Option Task) HallError) → IfOk r (IsPickTaken s pick parts new) → IfOk r (λ task. Takes S s (has_taken task) (state_of new))
       answered (Err why) t = tt
-      answered (Ok None) t = subst (λ f. Takes S s (has_taken None) (state_of f)) (sym t.1) (has_none free (none_here answers floor inv bags sets apart frontier lists tasks numbers none s free l t.0))
+      answered (Ok None) t = subst (λ f. Takes S s (has_taken None) (state_of f)) (sym t.1) (has_none free (none_here answers parts inv bags sets apart frontier lists tasks numbers none s free l t.0))
       answered (Ok (Some task)) t = subst (Takes S s (has_taken (Some task))) (sym (taken_state task t)) (takes_it task t)
 
-      pub still_hall : (r : Result (Option Task) HallError) → IfOk r (IsPickTaken s pick floor new) → OnErr r (IsSame floor new) → IsHall answers new
+      pub still_hall : (r : Result (Option Task) HallError) → IfOk r (IsPickTaken s pick parts new) → OnErr r (IsSame parts new) → IsHall answers new
       still_hall (Err why) t same = same_hall new same
       still_hall (Ok None) t same = subst (IsHall answers) (sym t.1) inv
       still_hall (Ok (Some task)) t same =
-          kept s l new task (t.1 empty_shard).1.number t.2.parts t.2.out t.2.waiting (mail_moved t.0 new task (t.1 empty_shard).0 (t.1 empty_shard).1 t.2.mails) steps (takes_it task t) (own_mail t.0 new (t.1 empty_shard).0 t.2.mails)
+          kept s l new task (t.1 empty_shard).1.number t.2.fields t.2.out t.2.waiting (mail_moved t.0 new task (t.1 empty_shard).0 (t.1 empty_shard).1 t.2.mails) steps (takes_it task t) (own_mail t.0 new (t.1 empty_shard).0 t.2.mails)
 
-    pub refused_so : (r : Result (Option Task) HallError) → IfErr r (IsPickRefused s pick floor) → IfErr r (IsTakeRefused S s)
+    pub refused_so : (r : Result (Option Task) HallError) → IfErr r (IsPickRefused s pick parts) → IfErr r (IsTakeRefused S s)
     refused_so (Ok task) h = tt
     refused_so (Err why) (inl m) = inl m.0
     refused_so (Err why) (inr h) = let one = some_task h.2.0 (h.2.1 empty_shard) in inr (spent, h.0, is_spent free one.0 one.1 h.1)
 
     -- want of memory comes last
-    pub memory_last : (r : Result (Option Task) HallError) → IfErr r (IsPickRefused s pick floor) → IfErr r (λ e. e ≡ Memory → (is_out S s ≡ false) × (S.taken < ends))
+    pub memory_last : (r : Result (Option Task) HallError) → IfErr r (IsPickRefused s pick parts) → IfErr r (λ e. e ≡ Memory → (is_out S s ≡ false) × (S.taken < ends))
     memory_last (Ok task) h = tt
     memory_last (Err why) (inl m) = λ is. (free, m.1)
     memory_last (Err why) (inr h) = λ is. absurd (let other = h.0 in cc)
@@ -372,69 +372,69 @@ led_to S s _ _ (has_none e n) task is = absurd (cc)
 led_to S s _ _ (is_spent e one may l) task is = absurd (cc)
 led_to S s _ _ (takes e one may l) task is = let same : one ≡ task = cc in ((λ i. with_task S (same i)), subst (MayTake S s) same may)
 
-module _ (answers : Answers) (floor : Floor) (inv : IsHall answers floor) (bags : BagLaws message_cmp) (numbers : NumbersInOrder (state_of floor))
-    (order : (S : HallState) → IsReached answers S → TasksInOrder S) (s : ℕ) (l : s < length floor.shards.items) where
+module _ (answers : Answers) (parts : Parts) (inv : IsHall answers parts) (bags : BagLaws message_cmp) (numbers : NumbersInOrder (state_of parts))
+    (order : (S : HallState) → IsReached answers S → TasksInOrder S) (s : ℕ) (l : s < length parts.shards.items) where
   -- the state before the last take is known by the tasks that are out
-  module _ (S : HallState) (task : Task) (last : IsLastTake answers S s task (state_of floor)) where
-    led : (state_of floor ≡ with_task S task) × MayTake S s task
-    led = led_to S s (has_taken (Some task)) (state_of floor) last.1 task refl
+  module _ (S : HallState) (task : Task) (last : IsLastTake answers S s task (state_of parts)) where
+    led : (state_of parts ≡ with_task S task) × MayTake S s task
+    led = led_to S s (has_taken (Some task)) (state_of parts) last.1 task refl
 
     lower : AllByRecursion (λ (t : Task). t.number < task.number) S.out
     lower = weaker (StillThere S) (λ (t : Task). t.number < task.number) (λ t still. let most = still.1 in let one = led.1.number in omega (arith, most, one)) S.out (order S last.0).there
 
-    pub was_out : floor.out.items ≡ S.out ++ task ∷ []
+    pub was_out : parts.out.items ≡ S.out ++ task ∷ []
     was_out = ap (λ (T : HallState). T.out) led.0 ∙ inserted_last task S.out lower
 
-    pub some_out : 0 < length floor.out.items
+    pub some_out : 0 < length parts.out.items
     some_out = let many = ap length was_out ∙ length-append S.out (task ∷ []) in omega (arith, many)
 
-  pub some_taken : (xs : List Task) (t : Task) → floor.out.items ≡ xs ++ t ∷ [] → 1 ≤ floor.taken
+  pub some_taken : (xs : List Task) (t : Task) → parts.out.items ≡ xs ++ t ∷ [] → 1 ≤ parts.taken
   some_taken xs t e = let all = numbers.given in let many = ap length e ∙ length-append xs (t ∷ []) in omega (arith, all, many)
 
   -- the parts after
-  module _ (then : Floor) (popped : Task) (out : floor.out.items ≡ then.out.items ++ popped ∷ [])
-      (mail : mails then.shards.items ≡ changed_at (λ ms. ms ++ taken_up popped.vertex popped.time popped.content) s (mails floor.shards.items)) (waiting_same : waits then.shards.items ≡ waits floor.shards.items) where
-    abbrev back : Floor
-    back = record floor { shards = then.shards; out = then.out; taken = floor.taken - 1 }
+  module _ (then : Parts) (popped : Task) (out : parts.out.items ≡ then.out.items ++ popped ∷ [])
+      (mail : mails then.shards.items ≡ changed_at (λ ms. ms ++ taken_up popped.vertex popped.time popped.content) s (mails parts.shards.items)) (waiting_same : waits then.shards.items ≡ waits parts.shards.items) where
+    abbrev back : Parts
+    back = record parts { shards = then.shards; out = then.out; taken = parts.taken - 1 }
 
     abbrev gone : List Message
     gone = taken_up popped.vertex popped.time popped.content
 
-    messages_back : bag_of message_cmp (in_mailboxes then.shards.items ++ with_tasks then.out.items) ≡ (state_of floor).messages
+    messages_back : bag_of message_cmp (in_mailboxes then.shards.items ++ with_tasks then.out.items) ≡ (state_of parts).messages
     messages_back =
         let wo = with_tasks then.out.items in
-        let fo = flat (mails floor.shards.items) in
-        let many = length-map floor.shards.items (λ x. x.mailbox.messages) in
+        let fo = flat (mails parts.shards.items) in
+        let many = length-map parts.shards.items (λ x. x.mailbox.messages) in
         ap (λ m. bag_of message_cmp (m ++ wo)) (flat_mails then.shards.items ∙ ap flat mail)
-        ∙ (bags.append (flat (changed_at (λ ms. ms ++ gone) s (mails floor.shards.items))) wo []
-        ∙ (more_there bags gone (mails floor.shards.items) s (omega (arith, many, l)) (join message_cmp wo [])
+        ∙ (bags.append (flat (changed_at (λ ms. ms ++ gone) s (mails parts.shards.items))) wo []
+        ∙ (more_there bags gone (mails parts.shards.items) s (omega (arith, many, l)) (join message_cmp wo [])
         ∙ (bags.swaps gone fo (join message_cmp wo [])
         ∙ (ap (join message_cmp fo) (bags.swaps gone wo [] ∙ sym (bags.append wo gone []))
         ∙ (sym (bags.append fo (wo ++ gone) [])
-        ∙ (λ i. bag_of message_cmp (sym (flat_mails floor.shards.items) i ++ sym (ap with_tasks out ∙ with_one_more then.out.items popped) i)))))))
+        ∙ (λ i. bag_of message_cmp (sym (flat_mails parts.shards.items) i ++ sym (ap with_tasks out ∙ with_one_more then.out.items popped) i)))))))
 
-    module _ (S : HallState) (task : Task) (last : IsLastTake answers S s task (state_of floor)) where
+    module _ (S : HallState) (task : Task) (last : IsLastTake answers S s task (state_of parts)) where
       same : (then.out.items ≡ S.out) × (popped ≡ task)
       same = last_of then.out.items S.out popped task (sym out ∙ was_out S task last)
 
       -- THE STATE is the one before the take
       pub is_back : state_of back ≡ S
       is_back =
-          let count : floor.taken - 1 ≡ S.taken = let one = ap (λ (T : HallState). T.taken) (led S task last).0 in omega (arith, one) in
-          (λ i. record (state_of floor) {
-            workers = as_many_waits floor.shards.items then.shards.items waiting_same i;
+          let count : parts.taken - 1 ≡ S.taken = let one = ap (λ (T : HallState). T.taken) (led S task last).0 in omega (arith, one) in
+          (λ i. record (state_of parts) {
+            workers = as_many_waits parts.shards.items then.shards.items waiting_same i;
             messages = messages_back i;
-            buffered = bag_of message_cmp (same_buffered floor.shards.items then.shards.items waiting_same i);
-            asked = set_of notification_cmp (same_asked 0 floor.shards.items then.shards.items waiting_same i);
+            buffered = bag_of message_cmp (same_buffered parts.shards.items then.shards.items waiting_same i);
+            asked = set_of notification_cmp (same_asked 0 parts.shards.items then.shards.items waiting_same i);
             out = same.0 i;
             taken = count i;
           })
           ∙ (λ i. record ((led S task last).0 i) { out = S.out; taken = S.taken })
 
-      its_own : AllByRecursion (IsKeyOf (length floor.shards.items) s) gone
+      its_own : AllByRecursion (IsKeyOf (length parts.shards.items) s) gone
       its_own =
-          let workers : length floor.shards.items ≡ S.workers = ap (λ (T : HallState). T.workers) (led S task last).0 in
-          subst (λ (t : Task). AllByRecursion (IsKeyOf (length floor.shards.items) s) (taken_up t.vertex t.time t.content)) (sym same.1)
+          let workers : length parts.shards.items ≡ S.workers = ap (λ (T : HallState). T.workers) (led S task last).0 in
+          subst (λ (t : Task). AllByRecursion (IsKeyOf (length parts.shards.items) s) (taken_up t.vertex t.time t.content)) (sym same.1)
           (subst (λ n. AllByRecursion (IsKeyOf n s) (taken_up task.vertex task.time task.content)) (sym workers) (own task.content (led S task last).1.content))
         where
           own : (content : Content) → IsContent S s task.vertex task.time content → AllByRecursion (IsKeyOf S.workers s) (taken_up task.vertex task.time content)
@@ -444,18 +444,18 @@ module _ (answers : Answers) (floor : Floor) (inv : IsHall answers floor) (bags 
       pub hall_back : IsHall answers back
       hall_back =
           let zero_too : s ≡ 0 + s = omega arith in
-          let W = length floor.shards.items in
+          let W = length parts.shards.items in
           record {
             reached = subst (IsReached answers) (sym is_back) last.0;
-            counted = subst (λ T. IsSameBag floor.table.stamps (active T)) (sym is_back) (subst (λ T. IsSameBag floor.table.stamps (active T)) (led S task last).0 inv.counted);
+            counted = subst (λ T. IsSameBag parts.table.stamps (active T)) (sym is_back) (subst (λ T. IsSameBag parts.table.stamps (active T)) (led S task last).0 inv.counted);
             inputs = inv.inputs;
-            shards = subst (λ n. AllByRecursion (IsShard n) (enumerate_from 0 then.shards.items)) (sym (as_many_waits floor.shards.items then.shards.items waiting_same))
+            shards = subst (λ n. AllByRecursion (IsShard n) (enumerate_from 0 then.shards.items)) (sym (as_many_waits parts.shards.items then.shards.items waiting_same))
                 (united W 0 then.shards.items
                 (subst (λ ms. AllByRecursion (IsMail W) (enumerate_from 0 ms)) (sym mail)
-                (mails_stay W 0 (λ ms. ms ++ gone) (mails floor.shards.items) s
-                (λ m is own. of_two (IsKeyOf W (0 + s)) m gone own (subst (λ n. AllByRecursion (IsKeyOf W n) gone) zero_too its_own)) (mail_of W 0 floor.shards.items inv.shards)))
-                (subst (λ ws. AllByRecursion (IsWaiting W) (enumerate_from 0 ws)) (sym waiting_same) (waiting_of W 0 floor.shards.items inv.shards)));
-            few = subst (λ n. n ≤ 16) (sym (as_many_waits floor.shards.items then.shards.items waiting_same)) inv.few;
+                (mails_stay W 0 (λ ms. ms ++ gone) (mails parts.shards.items) s
+                (λ m is own. of_two (IsKeyOf W (0 + s)) m gone own (subst (λ n. AllByRecursion (IsKeyOf W n) gone) zero_too its_own)) (mail_of W 0 parts.shards.items inv.shards)))
+                (subst (λ ws. AllByRecursion (IsWaiting W) (enumerate_from 0 ws)) (sym waiting_same) (waiting_of W 0 parts.shards.items inv.shards)));
+            few = subst (λ n. n ≤ 16) (sym (as_many_waits parts.shards.items then.shards.items waiting_same)) inv.few;
             next = inv.next;
-            sites = inv.sites;
+            routes = inv.routes;
           }

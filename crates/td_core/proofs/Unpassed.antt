@@ -5,18 +5,18 @@ use Rattle.td_reach.specs.Frontier.{has_passed}
 use Rattle.td_progress.specs.Bag.{IsSameBag}
 use Rattle.td_machine.specs.State.{HallState}
 use Rattle.td_machine.specs.Active.{active, unpassed}
-use Rattle.td_core.specs.declared.hall.Floor.{Floor}
-use Rattle.td_core.specs.Floor.{state_of}
+use Rattle.td_core.specs.declared.hall.Parts.{Parts}
+use Rattle.td_core.specs.Parts.{state_of}
 use Rattle.td_core.specs.Came.{next_below}
 use Rattle.td_core.proofs.CollectSteps.{PassedAlike}
 
-module _ (alike : PassedAlike) (floor : Floor) (counted : IsSameBag floor.table.stamps (active (state_of floor))) where
-  first_here : find (λ e. not (has_passed floor.table.stamps e)) (numbers_from (floor.base + 1) (floor.next - (floor.base + 1))) ≡ unpassed (state_of floor)
-  first_here = λ i. find (λ e. not (alike floor.table.stamps (active (state_of floor)) e counted i)) (numbers_from (floor.base + 1) (floor.next - (floor.base + 1)))
+module _ (alike : PassedAlike) (parts : Parts) (counted : IsSameBag parts.table.stamps (active (state_of parts))) where
+  first_here : find (λ e. not (has_passed parts.table.stamps e)) (numbers_from (parts.base + 1) (parts.next - (parts.base + 1))) ≡ unpassed (state_of parts)
+  first_here = λ i. find (λ e. not (alike parts.table.stamps (active (state_of parts)) e counted i)) (numbers_from (parts.base + 1) (parts.next - (parts.base + 1)))
 
-  pub is_unpassed : (last : ℕ) (b : Bool) (S : HallState) → state_of floor ≡ S
-      → find (λ e. not (has_passed floor.table.stamps e)) (numbers_from (floor.base + 1) (floor.next - (floor.base + 1))) ≡ next_below (last + 1) floor.next
-      → nat_lt (last + 1) floor.next ≡ b → cond b (Some (last + 1)) None ≡ unpassed S
+  pub is_unpassed : (last : ℕ) (b : Bool) (S : HallState) → state_of parts ≡ S
+      → find (λ e. not (has_passed parts.table.stamps e)) (numbers_from (parts.base + 1) (parts.next - (parts.base + 1))) ≡ next_below (last + 1) parts.next
+      → nat_lt (last + 1) parts.next ≡ b → cond b (Some (last + 1)) None ≡ unpassed S
   is_unpassed last b S is found test = sym (ap (λ d. cond d (Some (last + 1)) None) test) ∙ (sym found ∙ (first_here ∙ ap unpassed is))
 
 pub below : (a b : ℕ) → a < b → nat_lt a b ≡ true

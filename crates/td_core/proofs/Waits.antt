@@ -17,7 +17,7 @@ use Rattle.td_machine.specs.State.{message_cmp}
 use Rattle.td_machine.specs.Steps.{waiting}
 use Rattle.td_shard.specs.declared.waiting.Noted.{Noted}
 use Rattle.td_shard.specs.Asked.{AskedList, noted_cmp, with_items, with_items_by}
-use Rattle.td_core.specs.Floor.{waiting_at}
+use Rattle.td_core.specs.Parts.{waiting_at}
 
 pub none_is_some : {X : Type 0} {x : X} → None ≡ Some x → ⊥
 none_is_some {X} {x} e = let no : false ≡ true = ap is_some e in true≢false (sym no)

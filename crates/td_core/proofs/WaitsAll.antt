@@ -18,7 +18,7 @@ use Rattle.td_machine.specs.State.{Task, message_cmp, notification_cmp, shard_of
 use Rattle.td_shard.specs.declared.waiting.Noted.{Noted}
 use Rattle.td_shard.specs.declared.shard.Shard.{Shard}
 use Rattle.td_shard.specs.Asked.{AskedList, noted_cmp, noted_at, with_items}
-use Rattle.td_core.specs.Floor.{waiting_in, asked_in, asked_of_shard}
+use Rattle.td_core.specs.Parts.{waiting_in, asked_in, asked_of_shard}
 use Rattle.td_core.specs.Posted.{waits}
 use Rattle.td_core.specs.Delivered.{waiting_by, waiting_with}
 use Rattle.td_core.proofs.Waits.{waiting_all, as_messages, more_wait}

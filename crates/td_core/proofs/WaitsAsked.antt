@@ -16,7 +16,7 @@ use Rattle.td_machine.specs.declared.records.Notification.{Notification}
 use Rattle.td_machine.specs.State.{notification_cmp}
 use Rattle.td_shard.specs.declared.waiting.Noted.{Noted}
 use Rattle.td_shard.specs.Asked.{AskedList, noted_cmp, noted_at, items_at, with_items, with_items_by}
-use Rattle.td_core.specs.Floor.{asked_of_shard}
+use Rattle.td_core.specs.Parts.{asked_of_shard}
 use Rattle.td_core.proofs.Waits.{none_is_some}
 
 -- the notification of a shard, a vertex and a time

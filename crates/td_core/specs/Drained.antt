@@ -15,9 +15,9 @@ use Rattle.td_machine.specs.Tally.{records_in, notes_in, tally}
 use Rattle.td_machine.specs.Work.{Records, Notes}
 use Rattle.td_core.specs.declared.error.HallError.{HallError}
 use Rattle.td_core.specs.declared.error.HallError.TheVariants.{Memory, Spent}
-use Rattle.td_core.specs.declared.hall.Floor.{Floor}
+use Rattle.td_core.specs.declared.hall.Parts.{Parts}
 use Rattle.td_core.specs.declared.drain.Drained.{Drained}
-use Rattle.td_core.specs.Floor.{state_of, IsHall}
+use Rattle.td_core.specs.Parts.{state_of, IsHall}
 
 -- a take or a give
 abbrev pub IsWork : Event → Type 0
@@ -82,14 +82,14 @@ IsTurnIf answers S shard None T = (T ≡ S) × Takes S shard (has_taken None) S
 IsTurnIf answers S shard (Some delivered) T = IsTurn answers S shard delivered T
 
 -- no task is out, and what was delivered is no more than tasks can have
-pub record IsIdle (answers : Answers) (floor : Floor) (delivered : Drained) : Type 0 where
-  pub hall : IsHall answers floor
-  pub none_out : floor.out.items ≡ []
-  pub messages : delivered.messages ≤ task_size * floor.given
-  pub notes : delivered.notes ≤ floor.given
+pub record IsIdle (answers : Answers) (parts : Parts) (delivered : Drained) : Type 0 where
+  pub hall : IsHall answers parts
+  pub none_out : parts.out.items ≡ []
+  pub messages : delivered.messages ≤ task_size * parts.given
+  pub notes : delivered.notes ≤ parts.given
 
--- HOW FAR A DRAIN HAS COME: by takes and gives alone, which are counted, from one floor to another, both with no task out
-pub record IsFurther (answers : Answers) (old : Floor) (before : Drained) (new : Floor) (after : Drained) : Type 0 where
+-- HOW FAR A DRAIN HAS COME: by takes and gives alone, which are counted, from one parts to another, both with no task out
+pub record IsFurther (answers : Answers) (old : Parts) (before : Drained) (new : Parts) (after : Drained) : Type 0 where
   pub idle : IsIdle answers new after
   pub worked : (S : HallState) → Works answers S before.messages before.notes (state_of old) → Works answers S after.messages after.notes (state_of new)
   pub taken : old.taken ≤ new.taken

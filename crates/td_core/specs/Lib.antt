@@ -1,9 +1,9 @@
 pub mod Known
 pub mod Refusals
 pub mod Came
-pub mod Sites
+pub mod Routes
 pub mod Posted
-pub mod Floor
+pub mod Parts
 pub mod Delivered
 pub mod Collected
 pub mod Cuts

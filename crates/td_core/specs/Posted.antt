@@ -10,7 +10,7 @@ use Rattle.td_machine.specs.State.{shard_of_key}
 use Rattle.td_shard.specs.Asked.{AskedList}
 use Rattle.td_shard.specs.declared.shard.Shard.{Shard}
 use Rattle.td_shard.specs.declared.outlet.Outlet.{Outlet}
-use Rattle.td_core.specs.declared.posting.Rise.{Rise}
+use Rattle.td_core.specs.declared.post.Change.{Change}
 
 -- the messages of a shard
 abbrev pub of_shard : ℕ → ℕ → List Message → List Message
@@ -82,6 +82,6 @@ stamp_on_outlet t o = record { time = t; place = places.Edge o.number }
 abbrev pub stamps_on : List Outlet → Timestamp → ℕ → List Stamp
 stamps_on outlets t many = flat_map (λ o. replicate many (stamp_on_outlet t o)) outlets
 
--- the pointstamps of rises, each as often as it rises
-abbrev pub risen : List Rise → List Stamp
-risen rises = flat_map (λ r. replicate r.times r.stamp) rises
+-- the pointstamps of changes, each as often as it changes
+abbrev pub occurring : List Change → List Stamp
+occurring changes = flat_map (λ r. replicate r.times r.stamp) changes

@@ -27,12 +27,12 @@ use Rattle.td_shard.specs.declared.waiting.Noted.{Noted}
 use Rattle.td_shard.specs.declared.shard.Shard.{Shard}
 use Rattle.td_shard.specs.Asked.{AskedList, items_at, noted_at, noted_cmp}
 use Rattle.td_shard.specs.Messages.{task_at, left_at}
-use Rattle.td_core.specs.declared.hall.Floor.{Floor}
+use Rattle.td_core.specs.declared.hall.Parts.{Parts}
 use Rattle.td_core.specs.declared.error.HallError.{HallError}
 use Rattle.td_core.specs.declared.error.HallError.TheVariants.{Memory, Spent}
 use Rattle.td_core.specs.declared.take.Candidate.{Candidate}
 use Rattle.td_core.specs.declared.take.Candidate.TheVariants as candidates
-use Rattle.td_core.specs.Floor.{state_of}
+use Rattle.td_core.specs.Parts.{state_of}
 use Rattle.td_core.specs.Posted.{mails, waits}
 use Rattle.td_core.specs.Refusals.{error_of}
 
@@ -45,19 +45,19 @@ abbrev pub room_of : Shard → ℕ × ℕ
 room_of s = (s.mailbox.runs, s.mailbox.room)
 
 -- A TASK WAS TAKEN: it is out, the last, and but for the messages in mailboxes all else is as it was
-pub record IsTaken (old new : Floor) (task : Task) : Type 0 where
-  pub parts : new ≡ record old { shards = new.shards; out = new.out; taken = old.taken + 1 }
+pub record IsTaken (old new : Parts) (task : Task) : Type 0 where
+  pub fields : new ≡ record old { shards = new.shards; out = new.out; taken = old.taken + 1 }
   pub out : new.out.items ≡ old.out.items ++ task ∷ []
   pub waiting : waits new.shards.items ≡ waits old.shards.items
   pub room : map room_of new.shards.items ≡ map room_of old.shards.items
 
 -- all is as it was, but for room in the list of tasks
-pub record IsSame (old new : Floor) : Type 0 where
-  pub parts : new ≡ record old { out = new.out }
+pub record IsSame (old new : Parts) : Type 0 where
+  pub fields : new ≡ record old { out = new.out }
   pub out : new.out.items ≡ old.out.items
 
 -- or none was, and all is as it was
-abbrev pub IsTakenIf : Floor → Floor → Option Task → Type 0
+abbrev pub IsTakenIf : Parts → Parts → Option Task → Type 0
 IsTakenIf old new None = new ≡ old
 IsTakenIf old new (Some task) = IsTaken old new task
 
@@ -134,10 +134,10 @@ module _ (active : Active) where
 
 -- what a task has to do for a candidate: the message and others of its edge and time; or the items that wait, by key, with the states
 -- before their epoch
-abbrev pub IsFor : Floor → Shard → Candidate → Task → Type 0
-IsFor floor s (candidates.Message place) task = (port : ℕ) × (recs : List Rec) × (task.content ≡ messages port recs) × (coming task.vertex port task.time recs ≡ task_at place s.mailbox.messages)
-IsFor floor s (candidates.Notification n) task = (task.vertex ≡ n.vertex) × (task.time ≡ n.time)
-    × ((items : List Arrival) → items_at s.waiting n.vertex n.time ≡ Some items → task.content ≡ notification (map (with_state_of (state_of floor) n.vertex n.time) (groups items)))
+abbrev pub IsFor : Parts → Shard → Candidate → Task → Type 0
+IsFor parts s (candidates.Message place) task = (port : ℕ) × (recs : List Rec) × (task.content ≡ messages port recs) × (coming task.vertex port task.time recs ≡ task_at place s.mailbox.messages)
+IsFor parts s (candidates.Notification n) task = (task.vertex ≡ n.vertex) × (task.time ≡ n.time)
+    × ((items : List Arrival) → items_at s.waiting n.vertex n.time ≡ Some items → task.content ≡ notification (map (with_state_of (state_of parts) n.vertex n.time) (groups items)))
 
 -- a candidate that a shard has
 abbrev pub IsThere : Shard → Candidate → Type 0
@@ -145,11 +145,11 @@ IsThere s (candidates.Message place) = place < length s.mailbox.messages
 IsThere s (candidates.Notification n) = Unit {0}
 
 -- a task for a candidate of a shard
-pub record IsTaskFor (floor : Floor) (shard : ℕ) (s : Shard) (candidate : Candidate) (task : Task) : Type 0 where
+pub record IsTaskFor (parts : Parts) (shard : ℕ) (s : Shard) (candidate : Candidate) (task : Task) : Type 0 where
   pub shard_is : task.shard ≡ shard
-  pub number : task.number ≡ floor.taken + 1
-  pub kind : task.kind ≡ kind_of floor.table.plan task.vertex
-  pub content : IsFor floor s candidate task
+  pub number : task.number ≡ parts.taken + 1
+  pub kind : task.kind ≡ kind_of parts.table.plan task.vertex
+  pub content : IsFor parts s candidate task
 
 -- a list with what stands at a place changed
 abbrev pub changed_at : {X : Type 0} → (X → X) → ℕ → List X → List X
@@ -163,25 +163,25 @@ mails_without (candidates.Message place) i mails = changed_at (left_at place) i 
 mails_without (candidates.Notification n) i mails = mails
 
 -- A CANDIDATE WAS TAKEN of a shard as this task
-pub record IsTakenFor (candidate : Candidate) (shard : ℕ) (old new : Floor) (task : Task) : Type 0 where
-  pub parts : new ≡ record old { shards = new.shards; out = new.out; taken = old.taken + 1 }
+pub record IsTakenFor (candidate : Candidate) (shard : ℕ) (old new : Parts) (task : Task) : Type 0 where
+  pub fields : new ≡ record old { shards = new.shards; out = new.out; taken = old.taken + 1 }
   pub out : new.out.items ≡ old.out.items ++ task ∷ []
   pub mails : mails new.shards.items ≡ mails_without candidate shard (mails old.shards.items)
   pub waiting : waits new.shards.items ≡ waits old.shards.items
   pub room : map room_of new.shards.items ≡ map room_of old.shards.items
 
 -- the candidate that a pick names, with its task
-abbrev pub IsChosen : ℕ → ℕ → Floor → Option (Candidate × Task) → Type 0
-IsChosen shard pick floor None = HoldsAt (λ s. IsPicked floor.table s pick None) floor.shards.items shard
-IsChosen shard pick floor (Some c) = HoldsAt (λ s. IsPicked floor.table s pick (Some c.0) × IsTaskFor floor shard s c.0 c.1) floor.shards.items shard × (floor.taken < ends)
+abbrev pub IsChosen : ℕ → ℕ → Parts → Option (Candidate × Task) → Type 0
+IsChosen shard pick parts None = HoldsAt (λ s. IsPicked parts.table s pick None) parts.shards.items shard
+IsChosen shard pick parts (Some c) = HoldsAt (λ s. IsPicked parts.table s pick (Some c.0) × IsTaskFor parts shard s c.0 c.1) parts.shards.items shard × (parts.taken < ends)
 
 -- the task that a pick names was taken, or there is none
-abbrev pub IsPickTaken : ℕ → ℕ → Floor → Floor → Option Task → Type 0
+abbrev pub IsPickTaken : ℕ → ℕ → Parts → Parts → Option Task → Type 0
 IsPickTaken shard pick old new None = HoldsAt (λ s. IsPicked old.table s pick None) old.shards.items shard × (new ≡ old)
 IsPickTaken shard pick old new (Some task) = (candidate : Candidate) × HoldsAt (λ s. IsPicked old.table s pick (Some candidate) × IsTaskFor old shard s candidate task) old.shards.items shard
     × IsTakenFor candidate shard old new task × (old.taken < ends)
 
 -- or why it was not
-abbrev pub IsPickRefused : ℕ → ℕ → Floor → HallError → Type 0
+abbrev pub IsPickRefused : ℕ → ℕ → Parts → HallError → Type 0
 IsPickRefused shard pick old error =
     ((error ≡ Memory) × (old.taken < ends)) ⊎ ((error ≡ Spent) × (old.taken ≡ ends) × ((candidate : Candidate) × HoldsAt (λ s. IsPicked old.table s pick (Some candidate)) old.shards.items shard))

@@ -13,7 +13,7 @@ ghost use Rattle.td_stamp.specs.Bag.{join};
 ghost use Rattle.td_machine.specs.State.{output_at_cmp};
 
 use crate::error::HallError;
-use crate::hall::{Floor, Hall};
+use crate::hall::{Hall, Parts};
 use std::alloc::Global;
 use std::collections::BTreeMap;
 use std::marker::Model;
@@ -37,21 +37,21 @@ impl<L: Law> Hall<L> {
         reached::<L>();
         reached_in_order::<L>();
         in_any_order();
-        collect_passed(&mut self.floor)
+        collect_passed(&mut self.parts)
     }
 }
 
 /// The outputs of the epochs that have passed since the last that was collected.
-fn collect_passed(floor: &mut Floor) -> Result<Vec<EpochOut>, HallError>
-    requires { floor.old.collected < floor.old.next }
-    ensures outs { IfOk result (λ outs. outs.items ≡ map (out_of floor.old.outputs) (passed_since floor.old.table.stamps floor.old.collected floor.old.next)) }
-    ensures ok { OnOk result (floor.new ≡ without_passed floor.old) }
-    ensures err { OnErr result (floor.new ≡ floor.old) }
+fn collect_passed(parts: &mut Parts) -> Result<Vec<EpochOut>, HallError>
+    requires { parts.old.collected < parts.old.next }
+    ensures outs { IfOk result (λ outs. outs.items ≡ map (out_of parts.old.outputs) (passed_since parts.old.table.stamps parts.old.collected parts.old.next)) }
+    ensures ok { OnOk result (parts.new ≡ without_passed parts.old) }
+    ensures err { OnErr result (parts.new ≡ parts.old) }
     ensures memory { IfErr result (λ e. e ≡ Memory) }
 {
-    let last = last_passed(&floor.table, floor.collected, floor.next);
-    let outs = take_after(&mut floor.outputs, floor.alloc, floor.collected, last)?;
-    floor.collected = last;
+    let last = last_passed(&parts.table, parts.collected, parts.next);
+    let outs = take_after(&mut parts.outputs, parts.alloc, parts.collected, last)?;
+    parts.collected = last;
     Ok(outs)
 }
 
@@ -84,8 +84,8 @@ impl<L: Law> Hall<L> {
     {
         reached_in_order::<L>();
         in_any_order();
-        let last = last_passed(&self.floor.table, self.floor.base, self.floor.next);
-        if last + 1 < self.floor.next {
+        let last = last_passed(&self.parts.table, self.parts.base, self.parts.next);
+        if last + 1 < self.parts.next {
             Some(last + 1)
         } else {
             None

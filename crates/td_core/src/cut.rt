@@ -9,7 +9,7 @@ ghost use Rattle.td_core.specs.Refusals.{IsRefused};
 ghost use Rattle.td_core.specs.declared.error.HallError.TheVariants.{Memory};
 
 use crate::error::HallError;
-use crate::hall::{Floor, Hall};
+use crate::hall::{Hall, Parts};
 use std::collections::VecDeque;
 use td_calls::Law;
 use td_machine::laws::{base_has_passed, reached, reached_in_order};
@@ -41,8 +41,8 @@ impl<L: Law> Hall<L> {
         match self.unpassed() {
             Some(epoch) => Err(HallError::NotPassed(epoch)),
             None => {
-                let last = self.floor.next - 1;
-                cut_floor(&mut self.floor, last)
+                let last = self.parts.next - 1;
+                cut_parts(&mut self.parts, last)
             }
         }
     }
@@ -60,8 +60,8 @@ impl<L: Law> Hall<L> {
     {
         reached::<L>();
         in_any_order();
-        if self.floor.table.passed(epoch) {
-            cut_floor(&mut self.floor, epoch)
+        if self.parts.table.passed(epoch) {
+            cut_parts(&mut self.parts, epoch)
         } else {
             Err(HallError::NotPassed(self.unpassed().unwrap_or(epoch)))
         }
@@ -70,21 +70,21 @@ impl<L: Law> Hall<L> {
 
 /// Cuts a hall's parts at an epoch. Refusal: `Memory`, with nothing changed. Both copies of the states are made before anything
 /// is dropped: one becomes the base, and one is handed out.
-fn cut_floor(floor: &mut Floor, epoch: u64) -> Result<Cut, HallError>
-    requires { floor.old.base ≤ epoch }
+fn cut_parts(parts: &mut Parts, epoch: u64) -> Result<Cut, HallError>
+    requires { parts.old.base ≤ epoch }
     ensures epoch { IfOk result (λ cut. cut.epoch ≡ epoch) }
-    ensures states { IfOk result (λ cut. cut.states ≡ states_after floor.old epoch) }
-    ensures ok { OnOk result (IsCutAt epoch floor.old floor.new) }
-    ensures err { OnErr result (floor.new ≡ floor.old) }
+    ensures states { IfOk result (λ cut. cut.states ≡ states_after parts.old epoch) }
+    ensures ok { OnOk result (IsCutAt epoch parts.old parts.new) }
+    ensures err { OnErr result (parts.new ≡ parts.old) }
     ensures memory { IfErr result (λ e. e ≡ Memory) }
 {
-    let states = floor.versions.states_at(epoch, floor.states.copy()?)?;
-    let handed_out = OrderedStates::of(floor.alloc, &states)?;
-    drop_first(&mut floor.batches, epoch - floor.base);
-    floor.seen.let_go(epoch);
-    floor.versions.let_go(epoch);
-    floor.states = states;
-    floor.base = epoch;
+    let states = parts.versions.states_at(epoch, parts.states.copy()?)?;
+    let handed_out = OrderedStates::of(parts.alloc, &states)?;
+    drop_first(&mut parts.batches, epoch - parts.base);
+    parts.seen.let_go(epoch);
+    parts.versions.let_go(epoch);
+    parts.states = states;
+    parts.base = epoch;
     Ok(Cut {
         epoch,
         states: handed_out,

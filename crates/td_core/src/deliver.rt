@@ -8,19 +8,19 @@ ghost use Rattle.td_progress.specs.Bag.{occurrences, IsSameBag};
 ghost use Rattle.td_machine.specs.Active.{stamp_at};
 ghost use Rattle.td_machine.specs.ByEdge.{times_from};
 ghost use Rattle.td_machine.specs.State.Content.{messages, notification};
-ghost use Rattle.td_core.specs.Floor.{IsHall};
+ghost use Rattle.td_core.specs.Parts.{IsHall};
 ghost use Rattle.td_core.specs.Delivered.{IsDelivered, IsSentOn, IsSentNew, IsComeOut, IsNoted, CanSend};
 ghost use Rattle.td_core.specs.Given.{IsUntouched, IsNotified, outlets_for, waiting_without};
-ghost use Rattle.td_core.specs.Posted.{HaveRoom, IsRoomier, stamp_on_outlet, stamps_on, mails, risen, waits};
+ghost use Rattle.td_core.specs.Posted.{HaveRoom, IsRoomier, stamp_on_outlet, stamps_on, mails, occurring, waits};
 ghost use Rattle.td_core.specs.declared.error.HallError.TheVariants.{Memory};
 ghost use Rattle.td_stamp.specs.Bag.{join};
 ghost use Rattle.td_machine.specs.State.{left_cmp};
 ghost use Rattle.td_task.specs.Answered.{left_for};
 
 use crate::error::HallError;
-use crate::hall::{Floor, Sites};
+use crate::hall::{Parts, Routes};
 use crate::known::known;
-use crate::posting::{Rise, lower, make_room, post, raise, rises_on};
+use crate::post::{Change, add_all, changes_on, make_room, post, take_off_all};
 use std::alloc::{AllocError, Global};
 use td_calls::Law;
 use td_machine::StateLeft;
@@ -36,16 +36,16 @@ use td_task::{Done, KeyedItems, Task};
 /// Has the records of a task that is out come to its vertex (Naiad, section 2.2: OnRecv): what they send is posted, and what
 /// they add is added. The task is still out. Refusal: `Memory`, with nothing changed but for more room.
 pub(crate) fn deliver<L: Law>(
-    floor: &mut Floor,
+    parts: &mut Parts,
     done: &Done<L>,
     port: u8,
     recs: &[Rec],
 ) -> Result<(), HallError>
-    requires hall { IsHall L.answers floor.old }
-    requires out { Contains floor.old.out.items done.now }
+    requires hall { IsHall L.answers parts.old }
+    requires out { Contains parts.old.out.items done.now }
     requires content { done.now.content ≡ messages port recs.now }
-    ensures ok { OnOk result (IsDelivered L.answers done.now port recs.now floor.old floor.new) }
-    ensures err { OnErr result (IsUntouched floor.old floor.new) }
+    ensures ok { OnOk result (IsDelivered L.answers done.now port recs.now parts.old parts.new) }
+    ensures err { OnErr result (IsUntouched parts.old parts.new) }
     ensures memory { IfErr result (λ e. e ≡ Memory) }
 {
     known::<L>();
@@ -53,131 +53,131 @@ pub(crate) fn deliver<L: Law>(
     let (vertex, time) = (task.vertex(), task.time());
     match task.kind() {
         Kind::Input => Ok(()),
-        Kind::Map(_) => send(floor, vertex, time, done.sent()),
-        Kind::Distinct => send_new(floor, vertex, time, recs),
-        Kind::Group(_) | Kind::Fold(_) => keep(floor, task.shard(), vertex, time, port, recs),
-        Kind::Enter | Kind::Feedback | Kind::Leave => send(floor, vertex, time, recs),
-        Kind::Output => come_out(floor, vertex, time, recs),
+        Kind::Map(_) => send(parts, vertex, time, done.sent()),
+        Kind::Distinct => send_new(parts, vertex, time, recs),
+        Kind::Group(_) | Kind::Fold(_) => keep(parts, task.shard(), vertex, time, port, recs),
+        Kind::Enter | Kind::Feedback | Kind::Leave => send(parts, vertex, time, recs),
+        Kind::Output => come_out(parts, vertex, time, recs),
     }
 }
 
 /// Sends records from a vertex in answer to a time. Refusal: `Memory`, with nothing changed but for more room.
 pub(crate) fn send(
-    floor: &mut Floor,
+    parts: &mut Parts,
     vertex: u8,
     time: &Time,
     recs: &[Rec],
 ) -> Result<(), HallError>
-    requires { CanSend vertex time.now floor.old }
-    ensures ok { OnOk result (IsSentOn vertex time.now recs.now floor.old floor.new) }
-    ensures err { OnErr result (IsUntouched floor.old floor.new) }
+    requires { CanSend vertex time.now parts.old }
+    ensures ok { OnOk result (IsSentOn vertex time.now recs.now parts.old parts.new) }
+    ensures err { OnErr result (IsUntouched parts.old parts.new) }
     ensures memory { IfErr result (λ e. e ≡ Memory) }
 {
     counted();
     in_parts();
-    let Some(later) = floor.sites.sending_time(vertex, time) else {
+    let Some(later) = parts.routes.sending_time(vertex, time) else {
         return Ok(());
     };
-    let outlets = floor.sites.outlets(vertex);
+    let outlets = parts.routes.outlets(vertex);
     prepare(
-        &mut floor.table,
-        &mut floor.shards,
-        floor.alloc,
+        &mut parts.table,
+        &mut parts.shards,
+        parts.alloc,
         outlets,
         &later,
         recs,
     )?;
-    post(&mut floor.shards, outlets, &later, recs);
+    post(&mut parts.shards, outlets, &later, recs);
     Ok(())
 }
 
 /// Sends those of some records that are new to a distinct at a time, and has it have seen them. Refusal: `Memory`, with
 /// nothing changed but for more room.
-fn send_new(floor: &mut Floor, vertex: u8, time: &Time, recs: &[Rec]) -> Result<(), HallError>
-    requires can { CanSend vertex time.now floor.old }
-    requires plain { times_from floor.old.table.plan vertex time.now ≡ time.now ∷ [] }
-    ensures ok { OnOk result (IsSentNew vertex time.now recs.now floor.old floor.new) }
-    ensures err { OnErr result (IsUntouched floor.old floor.new) }
+fn send_new(parts: &mut Parts, vertex: u8, time: &Time, recs: &[Rec]) -> Result<(), HallError>
+    requires can { CanSend vertex time.now parts.old }
+    requires plain { times_from parts.old.table.plan vertex time.now ≡ time.now ∷ [] }
+    ensures ok { OnOk result (IsSentNew vertex time.now recs.now parts.old parts.new) }
+    ensures err { OnErr result (IsUntouched parts.old parts.new) }
     ensures memory { IfErr result (λ e. e ≡ Memory) }
 {
     counted();
     in_parts();
-    let outlets = floor.sites.outlets(vertex);
+    let outlets = parts.routes.outlets(vertex);
     prepare(
-        &mut floor.table,
-        &mut floor.shards,
-        floor.alloc,
+        &mut parts.table,
+        &mut parts.shards,
+        parts.alloc,
         outlets,
         time,
         recs,
     )?;
-    let Ok(new) = floor.seen.see(vertex, time, recs) else {
-        lower_on(&mut floor.table, outlets, time, recs.len() as u64);
+    let Ok(new) = parts.seen.see(vertex, time, recs) else {
+        take_off_on(&mut parts.table, outlets, time, recs.len() as u64);
         return Err(HallError::Memory);
     };
     let surplus = recs.len() - new.len();
-    lower_on(&mut floor.table, outlets, time, surplus as u64);
-    post(&mut floor.shards, outlets, time, new.as_slice());
+    take_off_on(&mut parts.table, outlets, time, surplus as u64);
+    post(&mut parts.shards, outlets, time, new.as_slice());
     Ok(())
 }
 
 /// Has records come out at an output in an epoch, and sends them. Refusal: `Memory`, with nothing changed but for more room.
-fn come_out(floor: &mut Floor, vertex: u8, time: &Time, recs: &[Rec]) -> Result<(), HallError>
-    requires can { CanSend vertex time.now floor.old }
-    requires plain { times_from floor.old.table.plan vertex time.now ≡ time.now ∷ [] }
-    ensures ok { OnOk result (IsComeOut vertex time.now recs.now floor.old floor.new) }
-    ensures err { OnErr result (IsUntouched floor.old floor.new) }
+fn come_out(parts: &mut Parts, vertex: u8, time: &Time, recs: &[Rec]) -> Result<(), HallError>
+    requires can { CanSend vertex time.now parts.old }
+    requires plain { times_from parts.old.table.plan vertex time.now ≡ time.now ∷ [] }
+    ensures ok { OnOk result (IsComeOut vertex time.now recs.now parts.old parts.new) }
+    ensures err { OnErr result (IsUntouched parts.old parts.new) }
     ensures memory { IfErr result (λ e. e ≡ Memory) }
 {
     counted();
     in_parts();
-    let outlets = floor.sites.outlets(vertex);
+    let outlets = parts.routes.outlets(vertex);
     prepare(
-        &mut floor.table,
-        &mut floor.shards,
-        floor.alloc,
+        &mut parts.table,
+        &mut parts.shards,
+        parts.alloc,
         outlets,
         time,
         recs,
     )?;
-    if floor.outputs.come(time.epoch(), vertex, recs).is_err() {
-        lower_on(&mut floor.table, outlets, time, recs.len() as u64);
+    if parts.outputs.come(time.epoch(), vertex, recs).is_err() {
+        take_off_on(&mut parts.table, outlets, time, recs.len() as u64);
         return Err(HallError::Memory);
     }
-    post(&mut floor.shards, outlets, time, recs);
+    post(&mut parts.shards, outlets, time, recs);
     Ok(())
 }
 
 /// Keeps records as items that wait at a vertex and time in a shard. Their notification is active from the first on. Refusal:
 /// `Memory`, with nothing changed but for more room.
 fn keep(
-    floor: &mut Floor,
+    parts: &mut Parts,
     shard: u8,
     vertex: u8,
     time: &Time,
     port: u8,
     recs: &[Rec],
 ) -> Result<(), HallError>
-    requires there { shard < length floor.old.shards.items }
+    requires there { shard < length parts.old.shards.items }
     requires some { 0 < length recs.now }
-    requires of_plan { IsOf floor.old.table.plan (stamp_at vertex time.now) }
-    ensures ok { OnOk result (IsNoted shard vertex time.now (map (arrival_of port) recs.now) floor.old floor.new) }
-    ensures err { OnErr result (IsUntouched floor.old floor.new) }
+    requires of_plan { IsOf parts.old.table.plan (stamp_at vertex time.now) }
+    ensures ok { OnOk result (IsNoted shard vertex time.now (map (arrival_of port) recs.now) parts.old parts.new) }
+    ensures err { OnErr result (IsUntouched parts.old parts.new) }
     ensures memory { IfErr result (λ e. e ≡ Memory) }
 {
     counted();
-    let waiting = &mut floor.shards[usize::from(shard)].waiting;
+    let waiting = &mut parts.shards[usize::from(shard)].waiting;
     let times = if waiting.is_asked(vertex, time) { 0 } else { 1 };
-    let asked = [Rise {
+    let asked = [Change {
         stamp: Stamp {
             time: time.copy(),
             place: Place::Vertex(vertex),
         },
         times,
     }];
-    raise(&mut floor.table, &asked)?;
+    add_all(&mut parts.table, &asked)?;
     if waiting.wait(vertex, time, port, recs).is_err() {
-        lower(&mut floor.table, &asked);
+        take_off_all(&mut parts.table, &asked);
         return Err(HallError::Memory);
     }
     Ok(())
@@ -204,12 +204,12 @@ pub(crate) fn prepare(
     ensures memory { IfErr result (λ e. e ≡ Memory) }
 {
     make_room(shards, recs, outlets.len())?;
-    let rises = rises_on(alloc, outlets, time, recs.len() as u64)?;
-    raise(table, rises.as_slice())
+    let changes = changes_on(alloc, outlets, time, recs.len() as u64)?;
+    add_all(table, changes.as_slice())
 }
 
 /// So many messages less on each of some outlets, at a time. It takes no memory.
-pub(crate) fn lower_on(table: &mut Table, outlets: &[Outlet], time: &Time, times: u64)
+pub(crate) fn take_off_on(table: &mut Table, outlets: &[Outlet], time: &Time, times: u64)
     requires { (p : AnyStamp) → occurrences p (stamps_on outlets.now time.now times) ≤ occurrences p table.old.stamps }
     ensures plan { table.new.plan ≡ table.old.plan }
     ensures stamps { IsSameBag table.old.stamps (stamps_on outlets.now time.now times ++ table.new.stamps) }
@@ -228,43 +228,43 @@ pub(crate) fn lower_on(table: &mut Table, outlets: &[Outlet], time: &Time, times
 /// notification wait no more (Naiad, section 2.2: OnNotify). The task is still out. Refusal: `Memory`, with nothing changed
 /// but for more room.
 pub(crate) fn notify<L: Law>(
-    floor: &mut Floor,
+    parts: &mut Parts,
     done: &Done<L>,
     items: &KeyedItems,
 ) -> Result<(), HallError>
-    requires hall { IsHall L.answers floor.old }
-    requires out { Contains floor.old.out.items done.now }
+    requires hall { IsHall L.answers parts.old }
+    requires out { Contains parts.old.out.items done.now }
     requires content { done.now.content ≡ notification items.now }
-    ensures ok { OnOk result (IsNotified L.answers done.now items.now floor.old floor.new) }
-    ensures err { OnErr result (IsUntouched floor.old floor.new) }
+    ensures ok { OnOk result (IsNotified L.answers done.now items.now parts.old parts.new) }
+    ensures err { OnErr result (IsUntouched parts.old parts.new) }
     ensures memory { IfErr result (λ e. e ≡ Memory) }
 {
     known::<L>();
     let task = done.task();
     let sent = done.sent();
-    let outlets = outlets_for(&floor.sites, task.vertex(), sent);
-    make_room(&mut floor.shards, sent, outlets.len())?;
-    let rises = rises_on(floor.alloc, outlets, task.time(), sent.len() as u64)?;
-    let left = left_for(floor.alloc, task, items, done.states())?;
-    raise_and_leave(
-        &mut floor.table,
-        &mut floor.versions,
-        rises.as_slice(),
+    let outlets = outlets_for(&parts.routes, task.vertex(), sent);
+    make_room(&mut parts.shards, sent, outlets.len())?;
+    let changes = changes_on(parts.alloc, outlets, task.time(), sent.len() as u64)?;
+    let left = left_for(parts.alloc, task, items, done.states())?;
+    add_all_and_leave(
+        &mut parts.table,
+        &mut parts.versions,
+        changes.as_slice(),
         left.as_slice(),
     )?;
-    post(&mut floor.shards, outlets, task.time(), sent);
-    take_waiting(&mut floor.shards, task);
+    post(&mut parts.shards, outlets, task.time(), sent);
+    take_waiting(&mut parts.shards, task);
     Ok(())
 }
 
 /// The edges on which records are sent from a vertex: none where there are no records.
-fn outlets_for<'a>(sites: &'a Sites, vertex: u8, recs: &[Rec]) -> &'a [Outlet]
-    ensures { result.now ≡ outlets_for sites.now vertex recs.now }
+fn outlets_for<'a>(routes: &'a Routes, vertex: u8, recs: &[Rec]) -> &'a [Outlet]
+    ensures { result.now ≡ outlets_for routes.now vertex recs.now }
 {
     if recs.is_empty() {
         &[]
     } else {
-        sites.outlets(vertex)
+        routes.outlets(vertex)
     }
 }
 
@@ -290,25 +290,25 @@ fn left_for(
     Ok(left)
 }
 
-/// Raises pointstamps, and keeps what a fold left. Refusal: `Memory`, with neither done.
-fn raise_and_leave(
+/// Adds pointstamps, and keeps what a fold left. Refusal: `Memory`, with neither done.
+fn add_all_and_leave(
     table: &mut Table,
     versions: &mut Versions,
-    rises: &[Rise],
+    changes: &[Change],
     left: &[StateLeft],
 ) -> Result<(), HallError>
-    requires { AllByRecursion (λ r. IsOf table.old.plan r.stamp) rises.now }
+    requires { AllByRecursion (λ r. IsOf table.old.plan r.stamp) changes.now }
     ensures plan { table.new.plan ≡ table.old.plan }
-    ensures raised { OnOk result (IsSameBag table.new.stamps (risen rises.now ++ table.old.stamps)) }
+    ensures added { OnOk result (IsSameBag table.new.stamps (occurring changes.now ++ table.old.stamps)) }
     ensures left { OnOk result (versions.new ≡ join left_cmp left.now versions.old) }
-    ensures none_raised { OnErr result (IsSameBag table.new.stamps table.old.stamps) }
+    ensures none_added { OnErr result (IsSameBag table.new.stamps table.old.stamps) }
     ensures none_left { OnErr result (versions.new ≡ versions.old) }
     ensures memory { IfErr result (λ e. e ≡ Memory) }
 {
     counted();
-    raise(table, rises)?;
+    add_all(table, changes)?;
     if versions.leave(left).is_err() {
-        lower(table, rises);
+        take_off_all(table, changes);
         return Err(HallError::Memory);
     }
     Ok(())

@@ -9,7 +9,7 @@ ghost use Rattle.td_machine.specs.Active.{has_passed, unpassed, kind_of};
 ghost use Rattle.td_machine.specs.Steps.{Takes, effect, is_given, Refusal, Gives, ends};
 ghost use Rattle.td_machine.specs.Steps.Answer.{has_taken, has_given, refused};
 ghost use Rattle.td_machine.specs.Tally.{records_in, notes_in};
-ghost use Rattle.td_core.specs.Floor.{state_of, IsHall};
+ghost use Rattle.td_core.specs.Parts.{state_of, IsHall};
 ghost use Rattle.td_core.specs.Given.{IsUntouched, IsAnswered, IsEnded, took};
 ghost use Rattle.td_core.specs.Posted.{IsRoomier};
 ghost use Rattle.td_core.specs.Taking.{HasRoomBack};
@@ -22,14 +22,14 @@ ghost use Rattle.td_machine.specs.State.Content.{messages};
 ghost use Rattle.td_machine.specs.InOrder.{OneAShard};
 ghost use Rattle.td_machine.specs.Moves.{gone_given};
 ghost use Rattle.td_core.specs.Refusals.{error_of};
-ghost use Rattle.td_core.specs.Sites.{IsSites, edge_in};
+ghost use Rattle.td_core.specs.Routes.{IsRoutes, edge_in};
 
 use crate::deliver::{deliver, notify};
 use crate::error::HallError;
-use crate::hall::{Floor, Hall, Sites};
+use crate::hall::{Hall, Parts, Routes};
 use crate::known::known;
-use crate::posting::Rise;
-use crate::take::{put_back, take_floor};
+use crate::post::Change;
+use crate::take::{put_back, take_task};
 use td_calls::{Closures, Law};
 use td_machine::TASK_SIZE;
 use td_machine::laws::{in_parts, plays_join, reached_in_order};
@@ -68,14 +68,14 @@ impl<L: Law> Hall<L> {
         ensures fresh { IfOk result (λ drained. IsExactFresh L.answers self.old drained.messages drained.notes) }
     {
         known::<L>();
-        if !self.floor.out.is_empty() {
+        if !self.parts.out.is_empty() {
             return Err(HallError::Busy);
         }
         let mut drained = Drained {
             messages: 0,
             notes: 0,
         };
-        drain_floor::<L, C>(&mut self.floor, calls, &mut drained)?;
+        drain_parts::<L, C>(&mut self.parts, calls, &mut drained)?;
         Ok(drained)
     }
 
@@ -96,74 +96,74 @@ impl<L: Law> Hall<L> {
         ensures unchanged { OnErr result (self.new ≡ self.old) }
         ensures refused { IfErr result (IsWhy self.new) }
     {
-        advance::<L, C>(&mut self.floor, calls, shard)
+        advance::<L, C>(&mut self.parts, calls, shard)
     }
 }
 
 /// Goes round all shards until none has a task, and counts what is delivered. Refusals: `Memory` and `Spent`.
-fn drain_floor<L: Law, C: Closures<L>>(
-    floor: &mut Floor,
+fn drain_parts<L: Law, C: Closures<L>>(
+    parts: &mut Parts,
     calls: &C,
     drained: &mut Drained,
 ) -> Result<(), HallError>
-    requires fits { first_lack (C.stored calls.now) (vertices floor.old.table.plan) ≡ None }
-    requires idle { IsIdle L.answers floor.old drained.old }
-    ensures further { IsFurther L.answers floor.old drained.old floor.new drained.new }
-    ensures none_left { OnOk result (HasNone (state_of floor.new)) }
-    ensures refused { IfErr result (IsWhy (state_of floor.new)) }
+    requires fits { first_lack (C.stored calls.now) (vertices parts.old.table.plan) ≡ None }
+    requires idle { IsIdle L.answers parts.old drained.old }
+    ensures further { IsFurther L.answers parts.old drained.old parts.new drained.new }
+    ensures none_left { OnOk result (HasNone (state_of parts.new)) }
+    ensures refused { IfErr result (IsWhy (state_of parts.new)) }
 {
     reached_in_order::<L>();
     loop {
-        let taken = floor.taken;
-        go_round::<L, C>(floor, calls, drained)?;
-        if is_still(floor, taken) {
+        let taken = parts.taken;
+        go_round::<L, C>(parts, calls, drained)?;
+        if is_still(parts, taken) {
             return Ok(());
         }
     }
 }
 
 /// Whether no task was taken since so many were.
-fn is_still(floor: &Floor, taken: u64) -> bool
-    ensures { IsTrue result ↔ (floor.now.taken ≡ taken) }
+fn is_still(parts: &Parts, taken: u64) -> bool
+    ensures { IsTrue result ↔ (parts.now.taken ≡ taken) }
 {
-    floor.taken == taken
+    parts.taken == taken
 }
 
 /// Clears each shard in turn. Refusals: `Memory` and `Spent`.
 fn go_round<L: Law, C: Closures<L>>(
-    floor: &mut Floor,
+    parts: &mut Parts,
     calls: &C,
     drained: &mut Drained,
 ) -> Result<(), HallError>
-    requires fits { first_lack (C.stored calls.now) (vertices floor.old.table.plan) ≡ None }
-    requires idle { IsIdle L.answers floor.old drained.old }
-    ensures further { IsFurther L.answers floor.old drained.old floor.new drained.new }
-    ensures none_left { OnOk result (floor.new.taken ≡ floor.old.taken → HasNone (state_of floor.new)) }
-    ensures refused { IfErr result (IsWhy (state_of floor.new)) }
+    requires fits { first_lack (C.stored calls.now) (vertices parts.old.table.plan) ≡ None }
+    requires idle { IsIdle L.answers parts.old drained.old }
+    ensures further { IsFurther L.answers parts.old drained.old parts.new drained.new }
+    ensures none_left { OnOk result (parts.new.taken ≡ parts.old.taken → HasNone (state_of parts.new)) }
+    ensures refused { IfErr result (IsWhy (state_of parts.new)) }
 {
-    for shard in 0..floor.shards.len() as u8 {
-        clear::<L, C>(floor, calls, shard, drained)?;
+    for shard in 0..parts.shards.len() as u8 {
+        clear::<L, C>(parts, calls, shard, drained)?;
     }
     Ok(())
 }
 
 /// Takes, runs and gives tasks of a shard until it has none. Refusals: `Memory` and `Spent`.
 fn clear<L: Law, C: Closures<L>>(
-    floor: &mut Floor,
+    parts: &mut Parts,
     calls: &C,
     shard: u8,
     drained: &mut Drained,
 ) -> Result<(), HallError>
-    requires fits { first_lack (C.stored calls.now) (vertices floor.old.table.plan) ≡ None }
-    requires idle { IsIdle L.answers floor.old drained.old }
-    requires within { shard < length floor.old.shards.items }
-    ensures further { IsFurther L.answers floor.old drained.old floor.new drained.new }
-    ensures none_left { OnOk result (Takes (state_of floor.new) shard (has_taken None) (state_of floor.new)) }
-    ensures refused { IfErr result (IsWhy (state_of floor.new)) }
+    requires fits { first_lack (C.stored calls.now) (vertices parts.old.table.plan) ≡ None }
+    requires idle { IsIdle L.answers parts.old drained.old }
+    requires within { shard < length parts.old.shards.items }
+    ensures further { IsFurther L.answers parts.old drained.old parts.new drained.new }
+    ensures none_left { OnOk result (Takes (state_of parts.new) shard (has_taken None) (state_of parts.new)) }
+    ensures refused { IfErr result (IsWhy (state_of parts.new)) }
 {
     plays_join::<L>();
     reached_in_order::<L>();
-    while let Some(delivered) = advance::<L, C>(floor, calls, shard)? {
+    while let Some(delivered) = advance::<L, C>(parts, calls, shard)? {
         drained.messages += delivered.messages;
         drained.notes += delivered.notes;
     }
@@ -173,28 +173,28 @@ fn clear<L: Law, C: Closures<L>>(
 /// Takes a task of a shard, runs it and gives it, if the shard has one, and tells what it delivered. Refusals, with the
 /// state as it was: `Memory` and `Spent`.
 fn advance<L: Law, C: Closures<L>>(
-    floor: &mut Floor,
+    parts: &mut Parts,
     calls: &C,
     shard: u8,
 ) -> Result<Option<Drained>, HallError>
-    requires fits { first_lack (C.stored calls.now) (vertices floor.old.table.plan) ≡ None }
-    requires hall { IsHall L.answers floor.old }
-    requires none_out { floor.old.out.items ≡ [] }
-    requires within { shard < length floor.old.shards.items }
-    ensures hall { IsHall L.answers floor.new }
-    ensures turn { IfOk result (λ delivered. IsTurnIf L.answers (state_of floor.old) shard delivered (state_of floor.new)) }
-    ensures err { OnErr result (state_of floor.new ≡ state_of floor.old) }
-    ensures refused { IfErr result (IsWhy (state_of floor.new)) }
+    requires fits { first_lack (C.stored calls.now) (vertices parts.old.table.plan) ≡ None }
+    requires hall { IsHall L.answers parts.old }
+    requires none_out { parts.old.out.items ≡ [] }
+    requires within { shard < length parts.old.shards.items }
+    ensures hall { IsHall L.answers parts.new }
+    ensures turn { IfOk result (λ delivered. IsTurnIf L.answers (state_of parts.old) shard delivered (state_of parts.new)) }
+    ensures err { OnErr result (state_of parts.new ≡ state_of parts.old) }
+    ensures refused { IfErr result (IsWhy (state_of parts.new)) }
 {
-    make_room_back(&mut floor.shards, shard)?;
-    let Some(task) = take_floor::<L>(floor, shard, 0)? else {
+    make_room_back(&mut parts.shards, shard)?;
+    let Some(task) = take_task::<L>(parts, shard, 0)? else {
         return Ok(None);
     };
     let delivered = delivery(&task);
-    match run_and_give::<L, C>(floor, calls, task) {
+    match run_and_give::<L, C>(parts, calls, task) {
         Ok(()) => Ok(Some(delivered)),
         Err(error) => {
-            put_back::<L>(floor, shard);
+            put_back::<L>(parts, shard);
             Err(error)
         }
     }
@@ -203,21 +203,21 @@ fn advance<L: Law, C: Closures<L>>(
 /// Runs the one task that is out, and gives it. Refusal: `Memory`, with the task still out and nothing changed but for more
 /// room.
 fn run_and_give<L: Law, C: Closures<L>>(
-    floor: &mut Floor,
+    parts: &mut Parts,
     calls: &C,
     task: Task,
 ) -> Result<(), HallError>
-    requires fits { first_lack (C.stored calls.now) (vertices floor.old.table.plan) ≡ None }
-    requires hall { IsHall L.answers floor.old }
-    requires out { floor.old.out.items ≡ task ∷ [] }
-    requires kind { task.kind ≡ kind_of floor.old.table.plan task.vertex }
-    ensures state { OnOk result (state_of floor.new ≡ is_given (effect L.answers (state_of floor.old) task task.content) task) }
-    ensures hall { OnOk result (IsHall L.answers floor.new) }
-    ensures err { OnErr result (IsUntouched floor.old floor.new) }
+    requires fits { first_lack (C.stored calls.now) (vertices parts.old.table.plan) ≡ None }
+    requires hall { IsHall L.answers parts.old }
+    requires out { parts.old.out.items ≡ task ∷ [] }
+    requires kind { task.kind ≡ kind_of parts.old.table.plan task.vertex }
+    ensures state { OnOk result (state_of parts.new ≡ is_given (effect L.answers (state_of parts.old) task task.content) task) }
+    ensures hall { OnOk result (IsHall L.answers parts.new) }
+    ensures err { OnErr result (IsUntouched parts.old parts.new) }
     ensures memory { IfErr result (λ e. e ≡ Memory) }
 {
-    match task.run::<L, C>(floor.alloc, calls) {
-        Ok(done) => give_floor::<L>(floor, 0, &done),
+    match task.run::<L, C>(parts.alloc, calls) {
+        Ok(done) => give_task::<L>(parts, 0, &done),
         Err((TaskError::Memory, _task)) => Err(HallError::Memory),
         // The calls fit the plan.
         Err((TaskError::NoCall(..), _task)) => unreachable!(),
@@ -267,10 +267,10 @@ impl<L: Law> Hall<L> {
         ensures err { OnErr result (self.new ≡ self.old) }
         ensures back { IfErr result (λ e. e.1 ≡ done) }
     {
-        let Some(place) = place_of(self.floor.out.as_slice(), done.task()) else {
+        let Some(place) = place_of(self.parts.out.as_slice(), done.task()) else {
             return Err((HallError::Stranger, done));
         };
-        match give_floor::<L>(&mut self.floor, place, &done) {
+        match give_task::<L>(&mut self.parts, place, &done) {
             Ok(()) => Ok(()),
             Err(error) => Err((error, done)),
         }
@@ -287,73 +287,73 @@ fn place_of(out: &[Task], task: &Task) -> Option<usize>
 
 /// Takes back the task that stands at a place of those that are out. Refusal: `Memory`, with nothing changed but for more
 /// room.
-pub(crate) fn give_floor<L: Law>(
-    floor: &mut Floor,
+pub(crate) fn give_task<L: Law>(
+    parts: &mut Parts,
     place: usize,
     done: &Done<L>,
 ) -> Result<(), HallError>
-    requires hall { IsHall L.answers floor.old }
-    requires there { slice_get floor.old.out.items place ≡ Some done.now }
-    ensures state { OnOk result (state_of floor.new ≡ is_given (effect L.answers (state_of floor.old) done.now done.now.content) done.now) }
-    ensures hall { OnOk result (IsHall L.answers floor.new) }
-    ensures err { OnErr result (IsUntouched floor.old floor.new) }
+    requires hall { IsHall L.answers parts.old }
+    requires there { slice_get parts.old.out.items place ≡ Some done.now }
+    ensures state { OnOk result (state_of parts.new ≡ is_given (effect L.answers (state_of parts.old) done.now done.now.content) done.now) }
+    ensures hall { OnOk result (IsHall L.answers parts.new) }
+    ensures err { OnErr result (IsUntouched parts.old parts.new) }
     ensures memory { IfErr result (λ e. e ≡ Memory) }
 {
     known::<L>();
-    answer::<L>(floor, done)?;
-    end(floor, place, done.task());
+    answer::<L>(parts, done)?;
+    end(parts, place, done.task());
     Ok(())
 }
 
 /// Answers a task that is out, which is still out then. Refusal: `Memory`, with nothing changed but for more room.
-fn answer<L: Law>(floor: &mut Floor, done: &Done<L>) -> Result<(), HallError>
-    requires hall { IsHall L.answers floor.old }
-    requires out { Contains floor.old.out.items done.now }
-    ensures ok { OnOk result (IsAnswered L.answers done.now done.now.content floor.old floor.new) }
-    ensures err { OnErr result (IsUntouched floor.old floor.new) }
+fn answer<L: Law>(parts: &mut Parts, done: &Done<L>) -> Result<(), HallError>
+    requires hall { IsHall L.answers parts.old }
+    requires out { Contains parts.old.out.items done.now }
+    ensures ok { OnOk result (IsAnswered L.answers done.now done.now.content parts.old parts.new) }
+    ensures err { OnErr result (IsUntouched parts.old parts.new) }
     ensures memory { IfErr result (λ e. e ≡ Memory) }
 {
     match done.task().work() {
-        Work::Messages(port, recs) => deliver::<L>(floor, done, *port, recs.as_slice()),
-        Work::Notification(items) => notify::<L>(floor, done, items),
+        Work::Messages(port, recs) => deliver::<L>(parts, done, *port, recs.as_slice()),
+        Work::Notification(items) => notify::<L>(parts, done, items),
     }
 }
 
 /// The task at a place of those that are out is out no more. It takes no memory.
-pub(crate) fn end(floor: &mut Floor, place: usize, task: &Task)
-    requires there { slice_get floor.old.out.items place ≡ Some task.now }
-    requires one_a_shard { OneAShard floor.old.out.items }
-    requires active { (p : AnyStamp) → occurrences p (gone_given (state_of floor.old) task.now task.now.content) ≤ occurrences p floor.old.table.stamps }
-    requires sites { IsSites floor.old.table.plan floor.old.sites }
-    requires given { floor.old.given < ends }
-    ensures { IsEnded task.now floor.old floor.new }
+pub(crate) fn end(parts: &mut Parts, place: usize, task: &Task)
+    requires there { slice_get parts.old.out.items place ≡ Some task.now }
+    requires one_a_shard { OneAShard parts.old.out.items }
+    requires active { (p : AnyStamp) → occurrences p (gone_given (state_of parts.old) task.now task.now.content) ≤ occurrences p parts.old.table.stamps }
+    requires routes { IsRoutes parts.old.table.plan parts.old.routes }
+    requires given { parts.old.given < ends }
+    ensures { IsEnded task.now parts.old parts.new }
 {
     in_parts();
     counted();
     // Their contracts say that there is a record in a task of records, and that the pointstamps are of a plan, which is lawful.
     let _some = task.work();
-    let _lawful = floor.table.plan().vertices();
-    let took = took(&floor.sites, task);
-    floor.table.take_off_many(&took.stamp, took.times);
-    floor.out.remove(place);
-    floor.given += 1;
+    let _lawful = parts.table.plan().vertices();
+    let took = took(&parts.routes, task);
+    parts.table.take_off_many(&took.stamp, took.times);
+    parts.out.remove(place);
+    parts.given += 1;
 }
 
 /// The pointstamp of what a task took up, and how often it occurs for it.
-fn took(sites: &Sites, task: &Task) -> Rise
-    requires { (port : ℕ) (recs : List AnyRec) → task.now.content ≡ messages port recs → edge_in sites.now task.now.vertex port < 256 }
-    ensures { result ≡ took sites.now task.now task.now.content }
+fn took(routes: &Routes, task: &Task) -> Change
+    requires { (port : ℕ) (recs : List AnyRec) → task.now.content ≡ messages port recs → edge_in routes.now task.now.vertex port < 256 }
+    ensures { result ≡ took routes.now task.now task.now.content }
 {
     let time = task.time().copy();
     match task.work() {
-        Work::Messages(port, recs) => Rise {
+        Work::Messages(port, recs) => Change {
             stamp: Stamp {
                 time,
-                place: Place::Edge(sites.edge(task.vertex(), *port)),
+                place: Place::Edge(routes.edge(task.vertex(), *port)),
             },
             times: recs.len() as u64,
         },
-        Work::Notification(_) => Rise {
+        Work::Notification(_) => Change {
             stamp: Stamp {
                 time,
                 place: Place::Vertex(task.vertex()),

@@ -3,7 +3,7 @@
 ghost use Rattle.std.specs.Prelude.{◌≡◌, ◌≤◌, IfOk, IfErr, length, replicate, ◌<◌, unwrap_or};
 ghost use Rattle.td_machine.specs.Active.{inputs_of};
 ghost use Rattle.td_machine.specs.Steps.{opened, ends, sending_times, again_below};
-ghost use Rattle.td_core.specs.Floor.{empty_shard};
+ghost use Rattle.td_core.specs.Parts.{empty_shard};
 ghost use Rattle.td_core.specs.declared.error.HallError.TheVariants.{Memory};
 ghost use Rattle.std.specs.List.{slice_get};
 ghost use Rattle.std.specs.Option.{option_to_list};
@@ -11,7 +11,7 @@ ghost use Rattle.td_stamp.specs.Time.{depth, leave};
 ghost use Rattle.td_plan.specs.declared.vertex.Kind.TheVariants.{Enter};
 ghost use Rattle.td_plan.specs.Blocks.{bounds, edge_at};
 ghost use Rattle.td_plan.specs.LookedUp.{IsLookedUp};
-ghost use Rattle.td_core.specs.Sites.{IsSite, IsSites, outlets_of, kind_in, bound_in, outlets_in, edge_in};
+ghost use Rattle.td_core.specs.Routes.{IsRoute, IsRoutes, outlets_of, kind_in, bound_in, outlets_in, edge_in};
 
 use crate::collect::Outputs;
 use crate::error::HallError;
@@ -36,19 +36,19 @@ use td_task::Task;
 /// (`td_machine::laws::reached`), so a call that keeps its step keeps the invariant.
 #[derive(Drop)]
 pub struct Hall<L: Law> {
-    pub(crate) floor: Floor,
+    pub(crate) parts: Parts,
     pub(crate) law: PhantomData<L>,
 }
 
 impl<L: Law> Model for Hall<L> {
     ghost use Rattle.td_machine.specs.State.{HallState};
-    ghost use Rattle.td_core.specs.Floor.{state_of, IsHall};
+    ghost use Rattle.td_core.specs.Parts.{state_of, IsHall};
 
     ghost Value = { HallState };
 
-    ghost view = { λ h. state_of h.floor };
+    ghost view = { λ h. state_of h.parts };
 
-    ghost invariant = { λ h. IsHall L.answers h.floor };
+    ghost invariant = { λ h. IsHall L.answers h.parts };
 }
 
 impl<L: Law> Hall<L> {
@@ -56,7 +56,7 @@ impl<L: Law> Hall<L> {
     pub fn plan(&self) -> &Plan
         ensures { result.now ≡ self.now.plan }
     {
-        self.floor.table.plan()
+        self.parts.table.plan()
     }
 
     /// The epoch up to which all is let go, and the states after it.
@@ -64,60 +64,60 @@ impl<L: Law> Hall<L> {
         ensures epoch { result.0 ≡ self.now.base }
         ensures states { result.1.now ≡ self.now.base_states }
     {
-        (self.floor.base, &self.floor.states)
+        (self.parts.base, &self.parts.states)
     }
 
     /// The batches that were released since the base.
     pub fn inputs(&self) -> &VecDeque<Batch>
         ensures { result.now.items ≡ self.now.batches }
     {
-        &self.floor.batches
+        &self.parts.batches
     }
 
     /// The last epoch that was collected.
     pub fn collected(&self) -> u64
         ensures { result ≡ self.now.collected }
     {
-        self.floor.collected
+        self.parts.collected
     }
 
     /// How many tasks were taken.
     pub fn taken(&self) -> u64
         ensures { result ≡ self.now.taken }
     {
-        self.floor.taken
+        self.parts.taken
     }
 
     /// How many tasks were given.
     pub fn given(&self) -> u64
         ensures { result ≡ self.now.given }
     {
-        self.floor.given
+        self.parts.given
     }
 
     /// How many shards there are.
     pub fn workers(&self) -> u8
         ensures { result ≡ self.now.workers }
     {
-        self.floor.shards.len() as u8
+        self.parts.shards.len() as u8
     }
 
     /// Whether the inputs are closed.
     pub fn is_closed(&self) -> bool
         ensures { result ≡ self.now.closed }
     {
-        self.floor.closed
+        self.parts.closed
     }
 }
 
 /// The parts of a hall. `Hall` is these with the law. So what a call does to the parts is a contract on plain values, and the
 /// hall's invariant (`IsHall`) is stated once.
 #[derive(Drop)]
-pub(crate) struct Floor {
+pub(crate) struct Parts {
     /// The plan, and the active pointstamps.
     pub table: Table,
-    /// What is looked up of the plan.
-    pub sites: Sites,
+    /// The ways through its vertices.
+    pub routes: Routes,
     /// The numbers of the plan's inputs.
     pub inputs: Vec<u8>,
     /// The epoch up to which all is let go, and the states after it.
@@ -166,13 +166,13 @@ impl<L: Law> Hall<L> {
         let _ = base.list();
         let inputs = inputs_of_plan(alloc, plan)?;
         let reach = Reach::of(alloc, plan)?;
-        let sites = Sites::of(alloc, plan)?;
+        let routes = Routes::of(alloc, plan)?;
         let table = Table::new(alloc, reach, inputs.as_slice(), first)?;
         let shards = empty_shards(alloc, workers)?;
         Ok(Hall {
-            floor: Floor {
+            parts: Parts {
                 table,
-                sites,
+                routes,
                 inputs,
                 base: first - 1,
                 states: base,
@@ -216,9 +216,9 @@ fn empty_shards(alloc: Global, workers: u8) -> Result<Vec<Shard>, AllocError>
     Ok(shards)
 }
 
-/// What is looked up of a vertex.
+/// The way through a vertex: what it does to a time, and the edges in and out.
 #[derive(Drop)]
-pub(crate) struct Site {
+pub(crate) struct Route {
     pub kind: Kind,
     /// The bound of the loop in which it stands, 0 outside all loops.
     pub bound: u16,
@@ -227,31 +227,31 @@ pub(crate) struct Site {
     pub outlets: Vec<Outlet>,
 }
 
-/// What is looked up of each vertex of a plan, by its number.
+/// The way through each vertex of a plan, by its number.
 #[derive(Drop)]
-pub(crate) struct Sites {
-    pub sites: Vec<Site>,
+pub(crate) struct Routes {
+    pub by_vertex: Vec<Route>,
     /// How many edges there are.
     pub edges: u8,
 }
 
-impl Sites {
+impl Routes {
     /// What is looked up of a plan. It costs v × e steps, with v vertices and e edges. Refusal: an allocation was refused.
-    pub fn of(alloc: Global, plan: &Plan) -> Result<Sites, AllocError>
-        ensures { IfOk result (IsSites plan.now) }
+    pub fn of(alloc: Global, plan: &Plan) -> Result<Routes, AllocError>
+        ensures { IfOk result (IsRoutes plan.now) }
     {
         look_ups();
         read_there();
         edges_by_number();
         let vertices = plan.vertices();
-        let mut sites = Vec::with_capacity(alloc, vertices.len())?;
+        let mut routes = Vec::with_capacity(alloc, vertices.len())?;
         let mut first: u8 = 0;
         for vertex in vertices {
-            sites.push_reserved(site_of(alloc, plan, vertex, first)?);
+            routes.push_reserved(route_of(alloc, plan, vertex, first)?);
             first += vertex.source_count() as u8;
         }
-        Ok(Sites {
-            sites,
+        Ok(Routes {
+            by_vertex: routes,
             edges: first,
         })
     }
@@ -260,8 +260,8 @@ impl Sites {
     pub fn kind(&self, vertex: u8) -> Kind
         ensures { result ≡ kind_in self.now vertex }
     {
-        match self.sites.get(usize::from(vertex)) {
-            Some(site) => site.kind,
+        match self.by_vertex.get(usize::from(vertex)) {
+            Some(route) => route.kind,
             None => Kind::Input,
         }
     }
@@ -270,8 +270,8 @@ impl Sites {
     pub fn outlets(&self, vertex: u8) -> &[Outlet]
         ensures { result.now ≡ outlets_in self.now vertex }
     {
-        match self.sites.get(usize::from(vertex)) {
-            Some(site) => site.outlets.as_slice(),
+        match self.by_vertex.get(usize::from(vertex)) {
+            Some(route) => route.outlets.as_slice(),
             None => &[],
         }
     }
@@ -281,8 +281,8 @@ impl Sites {
         requires { edge_in self.now vertex port < 256 }
         ensures { result ≡ edge_in self.now vertex port }
     {
-        match self.sites.get(usize::from(vertex)) {
-            Some(site) => site.first + port,
+        match self.by_vertex.get(usize::from(vertex)) {
+            Some(route) => route.first + port,
             None => self.edges + port,
         }
     }
@@ -304,21 +304,21 @@ impl Sites {
     fn bound(&self, vertex: u8) -> u16
         ensures { result ≡ bound_in self.now vertex }
     {
-        match self.sites.get(usize::from(vertex)) {
-            Some(site) => site.bound,
+        match self.by_vertex.get(usize::from(vertex)) {
+            Some(route) => route.bound,
             None => 0,
         }
     }
 }
 
 /// What is looked up of a vertex of a plan, where `first` is the number of the edge to its port 0.
-fn site_of(alloc: Global, plan: &Plan, vertex: &Vertex, first: u8) -> Result<Site, AllocError>
+fn route_of(alloc: Global, plan: &Plan, vertex: &Vertex, first: u8) -> Result<Route, AllocError>
     requires there { IsLookedUp plan.now vertex.now.vertex.number vertex.now }
     requires first { first ≡ edge_at plan.now vertex.now.vertex.number 0 }
-    ensures { IfOk result (IsSite plan.now vertex.now.vertex.number) }
+    ensures { IfOk result (IsRoute plan.now vertex.now.vertex.number) }
 {
     let outlets = outlets_of(alloc, plan, vertex.number())?;
-    Ok(Site {
+    Ok(Route {
         kind: vertex.kind(),
         bound: bound_of(vertex),
         first,

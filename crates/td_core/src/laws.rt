@@ -16,7 +16,7 @@ pub fn each_is_sound<L: Law>(hall: &Hall<L>)
     ensures sound { Sound L.answers hall.now }
 {
     reached::<L>();
-    let _ = &hall.floor;
+    let _ = &hall.parts;
 }
 
 /// Confluence: whatever order the takes and gives fall in, with any number of shards, the outputs that a play collects are

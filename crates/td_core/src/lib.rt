@@ -5,7 +5,7 @@
 //! reached state has right follows from laws and not from this code. Outputs and states are those of the batch meaning, whatever
 //! order tasks fall in.
 //!
-//! A call refuses before it changes anything, and a drain between two tasks. It makes room first, raises occurrence counts by the
+//! A call refuses before it changes anything, and a drain between two tasks. It makes room first, adds to occurrence counts by the
 //! most that may come, and makes its one other growth last; what follows takes no memory. So a call that was refused can be made
 //! again.
 //!
@@ -20,7 +20,7 @@ mod error;
 mod hall;
 mod known;
 pub mod laws;
-mod posting;
+mod post;
 mod release;
 mod states;
 mod take;

@@ -4,19 +4,19 @@ ghost use Rattle.td_stamp.specs.Batch.{records_for};
 ghost use Rattle.td_progress.specs.Bag.{input_stamp, IsSameBag, occurrences};
 ghost use Rattle.td_machine.specs.Steps.{accepts, ends, release_step, close_step};
 ghost use Rattle.td_machine.specs.Steps.Answer.{has_released, has_closed};
-ghost use Rattle.td_core.specs.Floor.{IsHall};
+ghost use Rattle.td_core.specs.Parts.{IsHall};
 ghost use Rattle.td_core.specs.Posted.{IsPosted, IsRoomier};
 ghost use Rattle.td_core.specs.Refusals.{IsRefused};
-ghost use Rattle.td_core.specs.Released.{IsIn, IsAsBefore, HaveRoomForLoads, load_of, loads_in, messages_of, rises_of};
+ghost use Rattle.td_core.specs.Released.{IsIn, IsAsBefore, HaveRoomForLoads, load_of, loads_in, messages_of, changes_of};
 ghost use Rattle.td_shard.specs.Messages.{AreApart};
-ghost use Rattle.td_core.specs.Sites.{outlets_in};
+ghost use Rattle.td_core.specs.Routes.{outlets_in};
 ghost use Rattle.td_core.specs.declared.error.HallError.TheVariants.{Memory};
 ghost use Rattle.td_reach.specs.declared.stamp.Stamp.{Stamp as AnyStamp};
 
 use crate::error::HallError;
-use crate::hall::{Floor, Hall, Sites};
+use crate::hall::{Hall, Parts, Routes};
 use crate::known::known;
-use crate::posting::{Counts, Rise, count, make_room_for, post, raise, rises_on};
+use crate::post::{Change, Counts, add_all, changes_on, count, make_room_for, post};
 use std::alloc::{AllocError, Global};
 use td_calls::Law;
 use td_machine::laws::reached;
@@ -50,15 +50,15 @@ impl<L: Law> Hall<L> {
         ensures back { IfErr result (λ e. e.1 ≡ batch) }
     {
         known::<L>();
-        if self.floor.closed {
+        if self.parts.closed {
             return Err((HallError::Closed, batch));
         }
-        if self.floor.next == EPOCHS_END {
+        if self.parts.next == EPOCHS_END {
             return Err((HallError::Epochs, batch));
         }
-        match bring_in::<L>(&mut self.floor, &batch) {
+        match bring_in::<L>(&mut self.parts, &batch) {
             Ok(epoch) => {
-                self.floor.batches.push_back_reserved(batch);
+                self.parts.batches.push_back_reserved(batch);
                 Ok(epoch)
             }
             Err(error) => Err((error, batch)),
@@ -68,28 +68,28 @@ impl<L: Law> Hall<L> {
 
 /// Brings a batch in, but for its own place among the batches, for which it makes room; and answers its epoch. All growth comes
 /// first, and the pointstamps are the last that may be refused. Refusal: `Memory`, with nothing changed but for more room.
-fn bring_in<L: Law>(floor: &mut Floor, batch: &Batch) -> Result<u64, HallError>
-    requires hall { IsHall L.answers floor.old }
-    requires accepted { accepts floor.old.table.plan batch.now ≡ true }
-    requires open { floor.old.closed ≡ false }
-    requires below { floor.old.next < 2 ^ 63 }
-    ensures epoch { IfOk result (λ epoch. epoch ≡ floor.old.next) }
-    ensures ok { OnOk result (IsIn batch.now floor.old floor.new) }
-    ensures err { OnErr result (IsAsBefore floor.old floor.new) }
+fn bring_in<L: Law>(parts: &mut Parts, batch: &Batch) -> Result<u64, HallError>
+    requires hall { IsHall L.answers parts.old }
+    requires accepted { accepts parts.old.table.plan batch.now ≡ true }
+    requires open { parts.old.closed ≡ false }
+    requires below { parts.old.next < 2 ^ 63 }
+    ensures epoch { IfOk result (λ epoch. epoch ≡ parts.old.next) }
+    ensures ok { OnOk result (IsIn batch.now parts.old parts.new) }
+    ensures err { OnErr result (IsAsBefore parts.old parts.new) }
     ensures memory { IfErr result (λ e. e ≡ Memory) }
 {
     known::<L>();
     bags_by_any_order::<Entry>();
     let _ = batch.list();
-    let epoch = floor.next;
-    let loads = loads_of(floor.alloc, floor.inputs.as_slice(), batch)?;
-    let rises = rises_in(floor.alloc, &floor.sites, loads.as_slice(), epoch)?;
-    make_room_for_loads(&mut floor.shards, &floor.sites, loads.as_slice())?;
-    floor.batches.reserve(1)?;
-    raise(&mut floor.table, rises.as_slice())?;
-    post_loads(&mut floor.shards, &floor.sites, loads.as_slice(), epoch);
-    take_off_inputs(&mut floor.table, floor.inputs.as_slice(), epoch);
-    floor.next += 1;
+    let epoch = parts.next;
+    let loads = loads_of(parts.alloc, parts.inputs.as_slice(), batch)?;
+    let changes = changes_in(parts.alloc, &parts.routes, loads.as_slice(), epoch)?;
+    make_room_for_loads(&mut parts.shards, &parts.routes, loads.as_slice())?;
+    parts.batches.reserve(1)?;
+    add_all(&mut parts.table, changes.as_slice())?;
+    post_loads(&mut parts.shards, &parts.routes, loads.as_slice(), epoch);
+    take_off_inputs(&mut parts.table, parts.inputs.as_slice(), epoch);
+    parts.next += 1;
     Ok(epoch)
 }
 
@@ -117,51 +117,51 @@ fn records_of(alloc: Global, batch: &Batch, input: u8) -> Result<Vec<Rec>, Alloc
 /// Makes room for loads on every edge out of the input of each. Refusal: `Memory`, with nothing changed but for more room.
 fn make_room_for_loads(
     shards: &mut Vec<Shard>,
-    sites: &Sites,
+    routes: &Routes,
     loads: &[Load],
 ) -> Result<(), HallError>
     requires some { 1 ≤ length shards.old.items }
     requires few { length shards.old.items ≤ 16 }
     ensures same { IsRoomier shards.old.items shards.new.items }
-    ensures room { OnOk result (HaveRoomForLoads sites.now (map load_of loads.now) shards.new.items) }
+    ensures room { OnOk result (HaveRoomForLoads routes.now (map load_of loads.now) shards.new.items) }
     ensures memory { IfErr result (λ e. e ≡ Memory) }
 {
     let workers = shards.len() as u8;
     let mut counts = Counts::new();
     for load in loads {
-        let edges = sites.outlets(load.input).len();
+        let edges = routes.outlets(load.input).len();
         count(&mut counts, load.recs.as_slice(), edges, workers)?;
     }
     make_room_for(shards, &counts)
 }
 
 /// What occurs more often when loads come in at an epoch: their messages, and their inputs at the next epoch. Refusal: `Memory`.
-fn rises_in(
+fn changes_in(
     alloc: Global,
-    sites: &Sites,
+    routes: &Routes,
     loads: &[Load],
     epoch: u64,
-) -> Result<Vec<Rise>, HallError>
+) -> Result<Vec<Change>, HallError>
     requires { epoch < 2 ^ 63 }
-    ensures rises { IfOk result (λ rises. rises.items ≡ flat_map (rises_of sites.now epoch) (map load_of loads.now)) }
+    ensures changes { IfOk result (λ changes. changes.items ≡ flat_map (changes_of routes.now epoch) (map load_of loads.now)) }
     ensures memory { IfErr result (λ e. e ≡ Memory) }
 {
     let time = Time::new(epoch);
-    let mut rises = Vec::new(alloc);
+    let mut changes = Vec::new(alloc);
     for load in loads {
-        let outlets = sites.outlets(load.input);
-        let mut more = rises_on(alloc, outlets, &time, load.recs.len() as u64)?;
-        rises.append(&mut more)?;
-        rises.push(rise_of_input(load.input, epoch + 1))?;
+        let outlets = routes.outlets(load.input);
+        let mut more = changes_on(alloc, outlets, &time, load.recs.len() as u64)?;
+        changes.append(&mut more)?;
+        changes.push(change_of_input(load.input, epoch + 1))?;
     }
-    Ok(rises)
+    Ok(changes)
 }
 
 /// An input occurs once more, at an epoch.
-fn rise_of_input(input: u8, epoch: u64) -> Rise
+fn change_of_input(input: u8, epoch: u64) -> Change
     ensures { result ≡ record { stamp = input_stamp epoch input; times = 1 } }
 {
-    Rise {
+    Change {
         stamp: Stamp {
             time: Time::new(epoch),
             place: Place::Vertex(input),
@@ -171,18 +171,18 @@ fn rise_of_input(input: u8, epoch: u64) -> Rise
 }
 
 /// Posts loads at an epoch, input by input, to every edge out of each. Takes no memory: room was made.
-fn post_loads(shards: &mut Vec<Shard>, sites: &Sites, loads: &[Load], epoch: u64)
+fn post_loads(shards: &mut Vec<Shard>, routes: &Routes, loads: &[Load], epoch: u64)
     requires some { 1 ≤ length shards.old.items }
     requires few { length shards.old.items ≤ 16 }
-    requires apart { (v : ℕ) → AreApart (outlets_in sites.now v) }
-    requires room { HaveRoomForLoads sites.now (map load_of loads.now) shards.old.items }
-    ensures { IsPosted (flat_map (messages_of sites.now epoch) (map load_of loads.now)) shards.old.items shards.new.items }
+    requires apart { (v : ℕ) → AreApart (outlets_in routes.now v) }
+    requires room { HaveRoomForLoads routes.now (map load_of loads.now) shards.old.items }
+    ensures { IsPosted (flat_map (messages_of routes.now epoch) (map load_of loads.now)) shards.old.items shards.new.items }
 {
     let time = Time::new(epoch);
     for load in loads {
         post(
             shards,
-            sites.outlets(load.input),
+            routes.outlets(load.input),
             &time,
             load.recs.as_slice(),
         );
@@ -196,10 +196,10 @@ impl<L: Law> Hall<L> {
     {
         reached::<L>();
         counted();
-        if !self.floor.closed {
-            let inputs = self.floor.inputs.as_slice();
-            take_off_inputs(&mut self.floor.table, inputs, self.floor.next);
-            self.floor.closed = true;
+        if !self.parts.closed {
+            let inputs = self.parts.inputs.as_slice();
+            take_off_inputs(&mut self.parts.table, inputs, self.parts.next);
+            self.parts.closed = true;
         }
     }
 }

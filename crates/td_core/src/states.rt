@@ -24,9 +24,9 @@ impl<L: Law> Hall<L> {
     {
         reached::<L>();
         in_any_order();
-        if self.floor.table.passed(epoch) {
-            let floor = &self.floor;
-            Ok(StatesAfter::new(&floor.versions, &floor.states, epoch))
+        if self.parts.table.passed(epoch) {
+            let parts = &self.parts;
+            Ok(StatesAfter::new(&parts.versions, &parts.states, epoch))
         } else {
             Err(HallError::NotPassed(self.unpassed().unwrap_or(epoch)))
         }

@@ -12,8 +12,8 @@ ghost use Rattle.td_machine.specs.Steps.{Takes, MayTake, with_state_of, ends};
 ghost use Rattle.td_machine.specs.Steps.Answer.{has_taken};
 ghost use Rattle.td_task.specs.KeyLists.{with_state, without_state};
 ghost use Rattle.td_shard.specs.Asked.{items_at};
-ghost use Rattle.td_core.specs.Floor.{state_of, taken_up, IsHall};
-ghost use Rattle.td_core.specs.Sites.{IsSites};
+ghost use Rattle.td_core.specs.Parts.{state_of, taken_up, IsHall};
+ghost use Rattle.td_core.specs.Routes.{IsRoutes};
 ghost use Rattle.td_core.specs.Posted.{mails, waits};
 ghost use Rattle.td_core.specs.Picks.{IsPick, IsFull};
 ghost use Rattle.td_core.specs.Taking.{changed_at, IsThere, IsTakeRefused, IsSame, IsTakenIf, HasRoomBack, IsLastTake};
@@ -24,7 +24,7 @@ ghost use Rattle.td_core.specs.declared.take.Candidate.TheVariants.{Message, Not
 ghost use Rattle.td_core.specs.declared.error.HallError.TheVariants.{Memory};
 
 use crate::error::HallError;
-use crate::hall::{Floor, Hall, Sites};
+use crate::hall::{Hall, Parts, Routes};
 use crate::known::known;
 use std::alloc::Global;
 use std::sync::Arc;
@@ -69,7 +69,7 @@ impl<L: Law> Hall<L> {
         ensures memory_last { IfErr result (λ e. e ≡ Memory → (is_out self.old shard ≡ false) × (self.old.taken < ends)) }
         ensures err { OnErr result (self.new ≡ self.old) }
     {
-        take_floor::<L>(&mut self.floor, shard, pick)
+        take_task::<L>(&mut self.parts, shard, pick)
     }
 
     /// Whether a shard at which no task is out has one that may be taken: a message that waits there, or a notification in the
@@ -77,60 +77,60 @@ impl<L: Law> Hall<L> {
     pub fn has_task(&self, shard: u8) -> bool
         ensures { IsTrue result ↔ ((is_out self.now shard ≡ false) × ((task : AnyTask) × MayTake self.now shard task)) }
     {
-        has_task_at::<L>(&self.floor, shard)
+        has_task_at::<L>(&self.parts, shard)
     }
 }
 
 /// Takes a task of a shard, if it has one. Refusals, with nothing changed: `Busy`, `Spent` and `Memory`.
-pub(crate) fn take_floor<L: Law>(
-    floor: &mut Floor,
+pub(crate) fn take_task<L: Law>(
+    parts: &mut Parts,
     shard: u8,
     pick: u64,
 ) -> Result<Option<Task>, HallError>
-    requires hall { IsHall L.answers floor.old }
-    ensures taken { IfOk result (λ task. Takes (state_of floor.old) shard (has_taken task) (state_of floor.new)) }
-    ensures picked { IfOk result (λ task. IfSome task (IsPick (state_of floor.old) shard pick)) }
-    ensures full { IfOk result (λ task. IfSome task (IsFull (state_of floor.old) shard)) }
-    ensures refused { IfErr result (IsTakeRefused (state_of floor.old) shard) }
-    ensures memory_last { IfErr result (λ e. e ≡ Memory → (is_out (state_of floor.old) shard ≡ false) × (floor.old.taken < ends)) }
-    ensures hall { IsHall L.answers floor.new }
-    ensures parts { IfOk result (IsTakenIf floor.old floor.new) }
-    ensures err { OnErr result (IsSame floor.old floor.new) }
+    requires hall { IsHall L.answers parts.old }
+    ensures taken { IfOk result (λ task. Takes (state_of parts.old) shard (has_taken task) (state_of parts.new)) }
+    ensures picked { IfOk result (λ task. IfSome task (IsPick (state_of parts.old) shard pick)) }
+    ensures full { IfOk result (λ task. IfSome task (IsFull (state_of parts.old) shard)) }
+    ensures refused { IfErr result (IsTakeRefused (state_of parts.old) shard) }
+    ensures memory_last { IfErr result (λ e. e ≡ Memory → (is_out (state_of parts.old) shard ≡ false) × (parts.old.taken < ends)) }
+    ensures hall { IsHall L.answers parts.new }
+    ensures fields { IfOk result (IsTakenIf parts.old parts.new) }
+    ensures err { OnErr result (IsSame parts.old parts.new) }
 {
     known::<L>();
-    if is_busy(floor.out.as_slice(), shard) {
+    if is_busy(parts.out.as_slice(), shard) {
         return Err(HallError::Busy);
     }
-    if usize::from(shard) >= floor.shards.len() {
+    if usize::from(shard) >= parts.shards.len() {
         return Ok(None);
     }
-    take_there(floor, shard, pick)
+    take_there(parts, shard, pick)
 }
 
 /// Whether a shard at which no task is out has one that may be taken.
-fn has_task_at<L: Law>(floor: &Floor, shard: u8) -> bool
-    requires hall { IsHall L.answers floor.now }
-    ensures { IsTrue result ↔ ((is_out (state_of floor.now) shard ≡ false) × ((task : AnyTask) × MayTake (state_of floor.now) shard task)) }
+fn has_task_at<L: Law>(parts: &Parts, shard: u8) -> bool
+    requires hall { IsHall L.answers parts.now }
+    ensures { IsTrue result ↔ ((is_out (state_of parts.now) shard ≡ false) × ((task : AnyTask) × MayTake (state_of parts.now) shard task)) }
 {
     known::<L>();
-    if is_busy(floor.out.as_slice(), shard) {
+    if is_busy(parts.out.as_slice(), shard) {
         return false;
     }
-    if usize::from(shard) >= floor.shards.len() {
+    if usize::from(shard) >= parts.shards.len() {
         return false;
     }
-    first_candidate(floor, shard).is_some()
+    first_candidate(parts, shard).is_some()
 }
 
 /// The first candidate of a shard, if there is one.
-fn first_candidate(floor: &Floor, shard: u8) -> Option<Candidate>
-    requires within { shard < length floor.now.shards.items }
-    requires sites { IsSites floor.now.table.plan floor.now.sites }
-    requires asked { HoldsAt (λ s. AreAsked floor.now.table (asked_at s)) floor.now.shards.items shard }
-    ensures { HoldsAt (λ s. IsPicked floor.now.table s 0 result) floor.now.shards.items shard }
+fn first_candidate(parts: &Parts, shard: u8) -> Option<Candidate>
+    requires within { shard < length parts.now.shards.items }
+    requires routes { IsRoutes parts.now.table.plan parts.now.routes }
+    requires asked { HoldsAt (λ s. AreAsked parts.now.table (asked_at s)) parts.now.shards.items shard }
+    ensures { HoldsAt (λ s. IsPicked parts.now.table s 0 result) parts.now.shards.items shard }
 {
-    let there = &floor.shards[usize::from(shard)];
-    picked(&floor.table, &floor.sites, there, 0)
+    let there = &parts.shards[usize::from(shard)];
+    picked(&parts.table, &parts.routes, there, 0)
 }
 
 /// Whether a task is out at a shard.
@@ -142,77 +142,77 @@ fn is_busy(out: &[Task], shard: u8) -> bool
 
 /// Takes the task that a pick names, of a shard at which none is out. Refusals, with nothing changed: `Spent` and `Memory`. A
 /// task is read before its messages are removed, since nothing that may be refused comes after the mailbox has changed.
-fn take_there(floor: &mut Floor, shard: u8, pick: u64) -> Result<Option<Task>, HallError>
-    requires within { shard < length floor.old.shards.items }
-    requires asked { HoldsAt (λ s. AreAsked floor.old.table (asked_at s)) floor.old.shards.items shard }
-    requires sites { IsSites floor.old.table.plan floor.old.sites }
-    requires numbers { floor.old.taken ≤ ends }
-    ensures taken { IfOk result (IsPickTaken shard pick floor.old floor.new) }
-    ensures refused { IfErr result (IsPickRefused shard pick floor.old) }
-    ensures err { OnErr result (IsSame floor.old floor.new) }
+fn take_there(parts: &mut Parts, shard: u8, pick: u64) -> Result<Option<Task>, HallError>
+    requires within { shard < length parts.old.shards.items }
+    requires asked { HoldsAt (λ s. AreAsked parts.old.table (asked_at s)) parts.old.shards.items shard }
+    requires routes { IsRoutes parts.old.table.plan parts.old.routes }
+    requires numbers { parts.old.taken ≤ ends }
+    ensures taken { IfOk result (IsPickTaken shard pick parts.old parts.new) }
+    ensures refused { IfErr result (IsPickRefused shard pick parts.old) }
+    ensures err { OnErr result (IsSame parts.old parts.new) }
 {
-    let Some((candidate, task)) = chosen(floor, shard, pick)? else {
+    let Some((candidate, task)) = chosen(parts, shard, pick)? else {
         return Ok(None);
     };
     let Ok(kept) = task.copy() else {
         return Err(HallError::Memory);
     };
-    floor.out.reserve(1)?;
-    remove(&mut floor.shards, shard, &candidate);
-    floor.out.push_reserved(kept);
-    floor.taken += 1;
+    parts.out.reserve(1)?;
+    remove(&mut parts.shards, shard, &candidate);
+    parts.out.push_reserved(kept);
+    parts.taken += 1;
     Ok(Some(task))
 }
 
 /// The candidate of a shard that a pick names, with its task, if there is one. Refusals: `Spent` and `Memory`.
-fn chosen(floor: &Floor, shard: u8, pick: u64) -> Result<Option<(Candidate, Task)>, HallError>
-    requires within { shard < length floor.now.shards.items }
-    requires asked { HoldsAt (λ s. AreAsked floor.now.table (asked_at s)) floor.now.shards.items shard }
-    requires sites { IsSites floor.now.table.plan floor.now.sites }
-    requires numbers { floor.now.taken ≤ ends }
-    ensures chosen { IfOk result (IsChosen shard pick floor.now) }
-    ensures refused { IfErr result (IsPickRefused shard pick floor.now) }
+fn chosen(parts: &Parts, shard: u8, pick: u64) -> Result<Option<(Candidate, Task)>, HallError>
+    requires within { shard < length parts.now.shards.items }
+    requires asked { HoldsAt (λ s. AreAsked parts.now.table (asked_at s)) parts.now.shards.items shard }
+    requires routes { IsRoutes parts.now.table.plan parts.now.routes }
+    requires numbers { parts.now.taken ≤ ends }
+    ensures chosen { IfOk result (IsChosen shard pick parts.now) }
+    ensures refused { IfErr result (IsPickRefused shard pick parts.now) }
 {
-    let there = &floor.shards[usize::from(shard)];
-    let Some(candidate) = picked(&floor.table, &floor.sites, there, pick) else {
+    let there = &parts.shards[usize::from(shard)];
+    let Some(candidate) = picked(&parts.table, &parts.routes, there, pick) else {
         return Ok(None);
     };
-    if floor.taken == MOST_TASKS {
+    if parts.taken == MOST_TASKS {
         return Err(HallError::Spent);
     }
-    let task = task_for(floor, there, shard, &candidate)?;
+    let task = task_for(parts, there, shard, &candidate)?;
     Ok(Some((candidate, task)))
 }
 
 /// The candidate of a shard that a pick names, if there is one. Where the pick is below the number of its messages, the
 /// notifications are not looked at.
-fn picked(table: &Table, sites: &Sites, shard: &Shard, pick: u64) -> Option<Candidate>
+fn picked(table: &Table, routes: &Routes, shard: &Shard, pick: u64) -> Option<Candidate>
     requires asked { AreAsked table.now (asked_at shard.now) }
-    requires sites { IsSites table.now.plan sites.now }
+    requires routes { IsRoutes table.now.plan routes.now }
     ensures { IsPicked table.now shard.now pick result }
 {
     let messages = shard.mailbox.len() as u64;
-    let place = place_of(table, sites, shard, pick);
+    let place = place_of(table, routes, shard, pick);
     if place < messages {
         return Some(Candidate::Message(place as usize));
     }
-    match ready_at(table, sites, &shard.waiting, place - messages) {
+    match ready_at(table, routes, &shard.waiting, place - messages) {
         Some(noted) => Some(Candidate::Notification(noted)),
         None => None,
     }
 }
 
 /// The place that a pick names. Where it is 0, or below the number of messages, it need not be counted round.
-fn place_of(table: &Table, sites: &Sites, shard: &Shard, pick: u64) -> u64
+fn place_of(table: &Table, routes: &Routes, shard: &Shard, pick: u64) -> u64
     requires asked { AreAsked table.now (asked_at shard.now) }
-    requires sites { IsSites table.now.plan sites.now }
+    requires routes { IsRoutes table.now.plan routes.now }
     ensures { IsPlaceOf table.now shard.now pick result }
 {
     let messages = shard.mailbox.len() as u64;
     if pick < messages.max(1) {
         return pick;
     }
-    let count = u128::from(messages) + u128::from(ready_count(table, sites, &shard.waiting));
+    let count = u128::from(messages) + u128::from(ready_count(table, routes, &shard.waiting));
     if count == 0 {
         return pick;
     }
@@ -220,9 +220,9 @@ fn place_of(table: &Table, sites: &Sites, shard: &Shard, pick: u64) -> u64
 }
 
 /// How many notifications of a shard are in the frontier.
-fn ready_count(table: &Table, sites: &Sites, waiting: &Waiting) -> u64
+fn ready_count(table: &Table, routes: &Routes, waiting: &Waiting) -> u64
     requires asked { AreAsked table.now (map (λ w. w.0) waiting.now) }
-    requires sites { IsSites table.now.plan sites.now }
+    requires routes { IsRoutes table.now.plan routes.now }
     ensures { (ready : List AnyNoted) → AreReady table.now (map (λ w. w.0) waiting.now) ready → result ≡ length ready }
 {
     time_list_order();
@@ -230,7 +230,7 @@ fn ready_count(table: &Table, sites: &Sites, waiting: &Waiting) -> u64
     let _few = waiting.len();
     let mut count = 0;
     for stamp in table.frontier() {
-        if asked_of(table, sites, waiting, &stamp).is_some() {
+        if asked_of(table, routes, waiting, &stamp).is_some() {
             count += 1;
         }
     }
@@ -239,17 +239,17 @@ fn ready_count(table: &Table, sites: &Sites, waiting: &Waiting) -> u64
 
 /// The notification at a place among those of a shard that are in the frontier: each place before it costs one more walk over the
 /// frontier.
-fn ready_at(table: &Table, sites: &Sites, waiting: &Waiting, place: u64) -> Option<Noted>
+fn ready_at(table: &Table, routes: &Routes, waiting: &Waiting, place: u64) -> Option<Noted>
     requires asked { AreAsked table.now (map (λ w. w.0) waiting.now) }
-    requires sites { IsSites table.now.plan sites.now }
+    requires routes { IsRoutes table.now.plan routes.now }
     ensures { IsReadyAt table.now (map (λ w. w.0) waiting.now) place result }
 {
-    let mut next = next_ready(table, sites, waiting, &None);
+    let mut next = next_ready(table, routes, waiting, &None);
     for _passed in 0..place {
         if next.is_none() {
             return None;
         }
-        next = next_ready(table, sites, waiting, &next);
+        next = next_ready(table, routes, waiting, &next);
     }
     next
 }
@@ -259,19 +259,19 @@ fn ready_at(table: &Table, sites: &Sites, waiting: &Waiting, place: u64) -> Opti
 /// the plan and at the counters in loops that are active, however many epochs are open.
 fn next_ready(
     table: &Table,
-    sites: &Sites,
+    routes: &Routes,
     waiting: &Waiting,
     after: &Option<Noted>,
 ) -> Option<Noted>
     requires asked { AreAsked table.now (map (λ w. w.0) waiting.now) }
-    requires sites { IsSites table.now.plan sites.now }
+    requires routes { IsRoutes table.now.plan routes.now }
     ensures { IsNextReady table.now (map (λ w. w.0) waiting.now) after.now result }
 {
     time_list_order();
     counted();
     let mut first = None;
     for stamp in table.frontier() {
-        first = earlier(first, after, asked_of(table, sites, waiting, &stamp));
+        first = earlier(first, after, asked_of(table, routes, waiting, &stamp));
     }
     first
 }
@@ -312,16 +312,16 @@ fn comes_before(noted: &Noted, first: &Option<Noted>) -> bool
 
 /// The notification of a pointstamp, where a shard asked for it. Vertices that have none are not looked up: an input is always in the
 /// frontier.
-fn asked_of(table: &Table, sites: &Sites, waiting: &Waiting, stamp: &Stamp) -> Option<Noted>
+fn asked_of(table: &Table, routes: &Routes, waiting: &Waiting, stamp: &Stamp) -> Option<Noted>
     requires asked { AreAsked table.now (map (λ w. w.0) waiting.now) }
-    requires sites { IsSites table.now.plan sites.now }
+    requires routes { IsRoutes table.now.plan routes.now }
     ensures { result ≡ asked_of waiting.now stamp.now.place stamp.now.time }
 {
     time_list_order();
     let Place::Vertex(vertex) = stamp.place else {
         return None;
     };
-    if !is_notified(sites.kind(vertex)) {
+    if !is_notified(routes.kind(vertex)) {
         return None;
     }
     if !waiting.is_asked(vertex, &stamp.time) {
@@ -342,64 +342,64 @@ fn is_notified(kind: Kind) -> bool
 
 /// A task for a candidate of a shard. Refusal: `Memory`.
 fn task_for(
-    floor: &Floor,
+    parts: &Parts,
     there: &Shard,
     shard: u8,
     candidate: &Candidate,
 ) -> Result<Task, HallError>
-    requires sites { IsSites floor.now.table.plan floor.now.sites }
-    requires numbers { floor.now.taken < ends }
+    requires routes { IsRoutes parts.now.table.plan parts.now.routes }
+    requires numbers { parts.now.taken < ends }
     requires there { IsThere there.now candidate.now }
-    ensures ok { IfOk result (IsTaskFor floor.now shard there.now candidate.now) }
+    ensures ok { IfOk result (IsTaskFor parts.now shard there.now candidate.now) }
     ensures memory { IfErr result (λ e. e ≡ Memory) }
 {
     match candidate {
-        Candidate::Message(place) => messages_task(floor, there, shard, *place),
-        Candidate::Notification(noted) => notification_task(floor, there, shard, noted),
+        Candidate::Message(place) => messages_task(parts, there, shard, *place),
+        Candidate::Notification(noted) => notification_task(parts, there, shard, noted),
     }
 }
 
 /// The task of the message at a place of a shard. Refusal: `Memory`.
-fn messages_task(floor: &Floor, there: &Shard, shard: u8, place: usize) -> Result<Task, HallError>
-    requires sites { IsSites floor.now.table.plan floor.now.sites }
-    requires numbers { floor.now.taken < ends }
+fn messages_task(parts: &Parts, there: &Shard, shard: u8, place: usize) -> Result<Task, HallError>
+    requires routes { IsRoutes parts.now.table.plan parts.now.routes }
+    requires numbers { parts.now.taken < ends }
     requires place { place < length there.now.mailbox.messages }
-    ensures ok { IfOk result (IsTaskFor floor.now shard there.now (Message place)) }
+    ensures ok { IfOk result (IsTaskFor parts.now shard there.now (Message place)) }
     ensures memory { IfErr result (λ e. e ≡ Memory) }
 {
     tasks();
     let taken = there.mailbox.task(place)?;
-    let kind = floor.sites.kind(taken.vertex);
-    let work = Arc::new(floor.alloc, Work::Messages(taken.port, taken.recs))?;
-    Ok(Task::new(shard, floor.taken + 1, taken.vertex, kind, taken.time, work))
+    let kind = parts.routes.kind(taken.vertex);
+    let work = Arc::new(parts.alloc, Work::Messages(taken.port, taken.recs))?;
+    Ok(Task::new(shard, parts.taken + 1, taken.vertex, kind, taken.time, work))
 }
 
 /// The task of a notification of a shard. Refusal: `Memory`.
 fn notification_task(
-    floor: &Floor,
+    parts: &Parts,
     there: &Shard,
     shard: u8,
     noted: &Noted,
 ) -> Result<Task, HallError>
-    requires sites { IsSites floor.now.table.plan floor.now.sites }
-    requires numbers { floor.now.taken < ends }
-    ensures ok { IfOk result (IsTaskFor floor.now shard there.now (Notification noted.now)) }
+    requires routes { IsRoutes parts.now.table.plan parts.now.routes }
+    requires numbers { parts.now.taken < ends }
+    ensures ok { IfOk result (IsTaskFor parts.now shard there.now (Notification noted.now)) }
     ensures memory { IfErr result (λ e. e ≡ Memory) }
 {
-    let mut items = grouped(floor.alloc, items_of(&there.waiting, noted))?;
+    let mut items = grouped(parts.alloc, items_of(&there.waiting, noted))?;
     let before = noted.time.epoch().saturating_sub(1);
     set_states(
-        &floor.versions,
-        &floor.states,
+        &parts.versions,
+        &parts.states,
         before,
         noted.vertex,
         &mut items,
     );
-    let kind = floor.sites.kind(noted.vertex);
-    let work = Arc::new(floor.alloc, Work::Notification(items))?;
+    let kind = parts.routes.kind(noted.vertex);
+    let work = Arc::new(parts.alloc, Work::Notification(items))?;
     Ok(Task::new(
         shard,
-        floor.taken + 1,
+        parts.taken + 1,
         noted.vertex,
         kind,
         noted.time.copy(),
@@ -452,20 +452,20 @@ fn remove(shards: &mut Vec<Shard>, shard: u8, candidate: &Candidate)
 
 /// Puts back what was taken last, of this shard, whose mailbox has room for it: the hall is as it was before that take, but for
 /// the order in which messages stand. It takes no memory.
-pub(crate) fn put_back<L: Law>(floor: &mut Floor, shard: u8)
-    requires hall { IsHall L.answers floor.old }
-    requires within { shard < length floor.old.shards.items }
-    requires room { HoldsAt HasRoomBack floor.old.shards.items shard }
-    ensures back { (S : HallState) (task : AnyTask) → IsLastTake L.answers S shard task (state_of floor.old) → state_of floor.new ≡ S }
-    ensures hall { (S : HallState) (task : AnyTask) → IsLastTake L.answers S shard task (state_of floor.old) → IsHall L.answers floor.new }
+pub(crate) fn put_back<L: Law>(parts: &mut Parts, shard: u8)
+    requires hall { IsHall L.answers parts.old }
+    requires within { shard < length parts.old.shards.items }
+    requires room { HoldsAt HasRoomBack parts.old.shards.items shard }
+    ensures back { (S : HallState) (task : AnyTask) → IsLastTake L.answers S shard task (state_of parts.old) → state_of parts.new ≡ S }
+    ensures hall { (S : HallState) (task : AnyTask) → IsLastTake L.answers S shard task (state_of parts.old) → IsHall L.answers parts.new }
 {
     reached_in_order::<L>();
     bags_of_states();
-    let Some(task) = floor.out.pop() else {
+    let Some(task) = parts.out.pop() else {
         return;
     };
-    post_back(&mut floor.shards, shard, &task);
-    floor.taken -= 1;
+    post_back(&mut parts.shards, shard, &task);
+    parts.taken -= 1;
 }
 
 /// Posts the messages of a task to a shard once more.

@@ -22,8 +22,8 @@ use Rattle.td_keeper.specs.declared.command.Reply.{Reply}
 use Rattle.td_keeper.specs.declared.command.Reply.TheVariants.{Refused, RefusedAll}
 use Rattle.td_keeper.specs.declared.submit_all.GroupError.TheVariants.{Keeper as ByKeeper}
 use Rattle.td_feed.specs.Said.{fault_in}
-use Rattle.td_orders.specs.declared.asking.Asked.{Asked}
-use Rattle.td_orders.specs.declared.asking.Asked.TheVariants.{One, Epochs}
+use Rattle.td_orders.specs.declared.source.Asked.{Asked}
+use Rattle.td_orders.specs.declared.source.Asked.TheVariants.{One, Epochs}
 use Rattle.td_orders.specs.declared.order.Order.{Order}
 use Rattle.td_orders.specs.Scripts.{Script, Asks, IsOf, TellsLine, is_of_reader}
 use Rattle.td_store.specs.standing.Standing.{last_epoch, last_request}

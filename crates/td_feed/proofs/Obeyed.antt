@@ -12,8 +12,8 @@ use Rattle.td_store.specs.standing.Standing.{last_request, submission}
 use Rattle.td_store.specs.standing.Stops.{Begins}
 use Rattle.td_keeper.specs.Keeping.{Keeping}
 use Rattle.td_orders.specs.declared.order.Order.{Order}
-use Rattle.td_orders.specs.declared.asking.Asked.{Asked}
-use Rattle.td_orders.specs.declared.asking.Asked.TheVariants.{One, Epochs}
+use Rattle.td_orders.specs.declared.source.Asked.{Asked}
+use Rattle.td_orders.specs.declared.source.Asked.TheVariants.{One, Epochs}
 use Rattle.td_orders.specs.Noted.{Aside, ComeOf, copied_in}
 use Rattle.td_orders.specs.Orders.{submissions, notes_in, order_for, new_after}
 use Rattle.td_orders.specs.Scripts.{Script, SeeNothing, Asks, IsOf, asked_for, notes_for}

@@ -2,7 +2,7 @@
 use Rattle.std.proofs.Common.{◌≡◌, ℕ, ◌+◌, ◌≤◌, ◌==◌, nat_lt, Bool, true, false, List, [], ◌∷◌, arith, refl, sym, ap, subst}
 use Rattle.std.specs.Prelude.{Option, Some, None, option_map, IfSome, if◌then◌else◌}
 use Rattle.td_orders.specs.declared.note.Note.TheVariants.{There}
-use Rattle.td_orders.specs.declared.asking.Asked.{Asked}
+use Rattle.td_orders.specs.declared.source.Asked.{Asked}
 use Rattle.td_orders.specs.declared.order.Order.{Order}
 use Rattle.td_orders.specs.declared.order.Order.TheVariants as order
 use Rattle.td_orders.specs.Orders.{submissions}

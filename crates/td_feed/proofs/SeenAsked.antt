@@ -6,7 +6,7 @@ use Rattle.td_console.specs.declared.faults.Fault.{Fault}
 use Rattle.td_stamp.specs.declared.values.Entry.{Entry}
 use Rattle.td_orders.specs.declared.order.Order.{Order}
 use Rattle.td_orders.specs.declared.order.Order.TheVariants as order
-use Rattle.td_orders.specs.declared.asking.Asked.{Asked}
+use Rattle.td_orders.specs.declared.source.Asked.{Asked}
 use Rattle.td_orders.specs.Orders.{order_for}
 use Rattle.td_orders.specs.Scripts.{SeeNothing}
 use Rattle.td_feed.specs.Held.{seen_after, then_seen, asked_seen, seen_with, told_seen, TellsSeen}

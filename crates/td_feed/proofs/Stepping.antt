@@ -25,8 +25,8 @@ use Rattle.td_stamp.specs.States.{StateList}
 use Rattle.td_questions.specs.declared.question.Wanted.{Wanted as Of}
 use Rattle.td_questions.specs.Lines.{answer_lines}
 use Rattle.td_orders.specs.Noted.Aside.{to_answer}
-use Rattle.td_orders.specs.declared.asking.Asked.{Asked}
-use Rattle.td_orders.specs.declared.asking.Asked.TheVariants.{One}
+use Rattle.td_orders.specs.declared.source.Asked.{Asked}
+use Rattle.td_orders.specs.declared.source.Asked.TheVariants.{One}
 use Rattle.td_orders.specs.declared.order.Order.{Order}
 use Rattle.td_orders.specs.Noted.{Aside}
 use Rattle.td_orders.specs.Scripts.{asked_for, notes_for}

@@ -2,7 +2,7 @@
 use Rattle.std.specs.Prelude.{ℕ, ◌+◌, ◌-◌, ◌*◌, ◌/◌, ◌^◌, min, nat_le, length}
 use Rattle.td_store.specs.standing.Standing.{last_epoch, last_request}
 use Rattle.td_keeper.specs.Keeping.{Keeping}
-use Rattle.td_orders.specs.declared.asking.Room.{Room}
+use Rattle.td_orders.specs.declared.source.Room.{Room}
 
 -- HOW MANY EPOCHS FORM A GROUP: as many as are asked for, 256 and 1 MiB of cells at most, and no more than there are free cells and numbers of epochs
 abbrev pub epochs_of : {D : Type 0} → Keeping D → ℕ → ℕ

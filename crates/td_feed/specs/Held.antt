@@ -8,8 +8,8 @@ use Rattle.td_orders.specs.declared.order.Order.{Order}
 use Rattle.td_orders.specs.declared.order.Order.TheVariants as order
 use Rattle.td_feed.specs.declared.under_way.Pace.{Pace}
 use Rattle.td_feed.specs.declared.under_way.Pace.TheVariants.{AtEnd, Live}
-use Rattle.td_orders.specs.declared.asking.Asked.{Asked}
-use Rattle.td_orders.specs.declared.asking.Asked.TheVariants.{One, Epochs}
+use Rattle.td_orders.specs.declared.source.Asked.{Asked}
+use Rattle.td_orders.specs.declared.source.Asked.TheVariants.{One, Epochs}
 
 -- the last epoch that was seen, after an order, and a last one before it
 abbrev pub seen_then : ℕ → Order → ℕ

@@ -13,7 +13,7 @@ use Rattle.td_keeper.specs.Halls.{IsDone}
 use Rattle.td_keeper.specs.Driven.{may_write, Obeys}
 use Rattle.td_console.specs.declared.faults.Fault.{Fault}
 use Rattle.td_console.specs.Refusals.{keeper_fault}
-use Rattle.td_orders.specs.declared.asking.Asked.{Asked}
+use Rattle.td_orders.specs.declared.source.Asked.{Asked}
 use Rattle.td_orders.specs.Scripts.{asked_for, notes_for}
 use Rattle.td_feed.specs.declared.under_way.Pace.{Pace}
 use Rattle.td_feed.specs.declared.under_way.Pace.TheVariants.{AtEnd, Live}

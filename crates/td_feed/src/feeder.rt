@@ -12,7 +12,7 @@ ghost use Rattle.td_feed.specs.Fed.{pool_fault};
 ghost use Rattle.td_feed.specs.Served.{Serves, script_at};
 
 use crate::host::Host;
-use crate::saying::Voice;
+use crate::reply_lines::Voice;
 use crate::under_way::{Feeding, Pace};
 use std::alloc::Global;
 use std::sync::Wait;

@@ -9,17 +9,17 @@
 //! For example a feed of `0 7 1` and `.` submits one record as the next epoch, and writes `ack 1` on a new disk.
 #![tactic(auto)]
 
-mod copying;
+mod copy;
 mod feeder;
 mod host;
 pub mod laws;
-mod saying;
+mod reply_lines;
 mod session;
 mod under_way;
-mod upgrading;
+mod version;
 
 pub use feeder::Fed;
 pub use host::{Host, NoHost, Why};
-pub use saying::{Marked, Voice};
+pub use reply_lines::{Marked, Voice};
 pub use session::{Session, StreamOptions};
-pub use upgrading::upgrade;
+pub use version::upgrade;

@@ -20,7 +20,7 @@ ghost use Rattle.td_feed.specs.Session.{lack_of, limit_of, pace_of, asked_at, Ke
 
 use crate::feeder::{Fed, Feeder, Served};
 use crate::host::{Host, NoHost};
-use crate::saying::Voice;
+use crate::reply_lines::Voice;
 use crate::under_way::Pace;
 use std::alloc::Global;
 use std::collections::VecDeque;

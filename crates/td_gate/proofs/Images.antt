@@ -1,11 +1,11 @@
 -- What a write of the gate or of the payload makes of an image.
-use Rattle.std.proofs.Common.{◌≡◌, ◌≢◌, inl, inr, ℕ, ◌+◌, ◌<◌, ◌≤◌, List, [], ◌∷◌, length, get_or, drop, Some, None, refl, sym, ◌∙◌, ap, arith, length-drop}
+use Rattle.std.proofs.Common.{◌≡◌, ◌≢◌, inl, inr, ℕ, ◌+◌, ◌<◌, ◌≤◌, List, [], ◌∷◌, length, get_or, drop, Some, None, Bool, true, refl, sym, ◌∙◌, ap, arith, length-drop}
 use Rattle.std.proofs.lemmas.Bool.{cases_eq}
 use Rattle.std.proofs.lemmas.Bool.Decides.{nat_tests}
 use Rattle.std.proofs.lemmas.List.{ext_get_or, take_all, length-take, get_or-take, get_or-drop}
 use Rattle.td_disk.specs.Disk.{DiskState, bytes_at, SameOutside}
 use Rattle.td_gate.specs.declared.region.Region.{Region}
-use Rattle.td_gate.specs.Region.{gate_of, opened, start_of, IsSettled, Closes, Fills, Opens}
+use Rattle.td_gate.specs.Region.{gate_of, is_open_in, opened, start_of, IsSettled, Closes, Fills, Opens}
 
 pub same_outside_refl : (at n : ℕ) (c : List ℕ) → SameOutside at n c c
 same_outside_refl at n c = record { size = refl; before = λ i l. refl; after = λ i l. refl }
@@ -33,6 +33,10 @@ opened_open r c is = grind (arith, nat_tests)
 
 pub opened_closed : (r : Region) (c : List ℕ) → gate_of r c ≢ 165 → opened r c ≡ None
 opened_closed r c is = grind (arith, nat_tests)
+
+-- a gate that was found open
+pub found_open : (r : Region) (c : List ℕ) (is : Bool) → is ≡ is_open_in r c → is ≡ true → gate_of r c ≡ 165
+found_open r c is found true_is = grind (arith, nat_tests)
 
 -- A payload's first bytes are it, where they are as many as it has.
 pub whole_start : (r : Region) (c : List ℕ) → start_of r.len (opened r c) ≡ opened r c

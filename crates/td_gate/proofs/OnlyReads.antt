@@ -1,5 +1,5 @@
 -- Calls that only read.
-use Rattle.std.proofs.Common.{◌≡◌, ◌∙◌, ℕ, refl, sym}
+use Rattle.std.proofs.Common.{◌≡◌, ◌∙◌, refl, sym}
 use Rattle.std.specs.Prelude.{◌↔◌}
 use Rattle.td_disk.specs.Disk.{DiskView, DiskState, NoNewImages, TimePasses}
 use Rattle.td_gate.specs.CrashSafe.{CrashSafe, Unchanged}

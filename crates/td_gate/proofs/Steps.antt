@@ -1,8 +1,8 @@
 -- The three steps of a put, as runs.
 use Rattle.std.proofs.Common.{◌≡◌, ℕ, ◌+◌, List, [], ◌∷◌, length, arith, refl, sym, subst, ◌∙◌, ap, inl, inr, ⊎_elim, Some, Result, Ok, Err}
 use Rattle.std.specs.Prelude.{OnOk}
-use Rattle.td_disk.specs.Disk.{DiskState, bytes_at, NoNewImages, IsDurable, TimePasses, SameOutside}
-use Rattle.td_gate.specs.CrashSafe.{CrashSafe}
+use Rattle.td_disk.specs.Disk.{DiskState, bytes_at, ImagesFollow, IsDurable, TimePasses, SameOutside}
+use Rattle.td_gate.specs.CrashSafe.{CrashSafe, Unchanged}
 use Rattle.td_gate.specs.Region.{SameWithin}
 use Rattle.td_gate.proofs.CrashSafety.{HasClock, at_the_end, one_call, in_turn, weaker_step}
 use Rattle.td_gate.specs.declared.region.Region.{Region}
@@ -10,12 +10,12 @@ use Rattle.td_gate.specs.Region.{gate_of, opened, IsSettled, IsClosed, IsFilled,
 use Rattle.td_gate.proofs.Images.{closes, opens, same_outside_refl, same_outside_trans, opened_open, payload_same, bytes_one}
 
 -- the gate was read and then written
-pub close_safe : (r : Region) (old mid new : DiskState) → HasClock old → HasClock mid → IsSettled r old → gate_of r old.bytes ≡ 165
-    → NoNewImages old mid → TimePasses old mid → CrashSafe (SameOutside (r.at + r.len) 1) mid new → CrashSafe (Closes r) old new
-close_safe r old mid new at_old at_mid settled is_open no_more time wrote =
+pub close_safe : (r : Region) (old mid new : DiskState) → HasClock mid → IsSettled r old → gate_of r old.bytes ≡ 165
+    → CrashSafe Unchanged old mid → ImagesFollow (SameOutside (r.at + r.len) 1) mid new → TimePasses mid new → CrashSafe (Closes r) old new
+close_safe r old mid new at_mid settled is_open same follows time =
     let step = SameOutside (r.at + r.len) 1 in
-    let same = one_call (λ d c. c ≡ d) old mid at_old (λ c. refl) time (λ c now. (c, no_more c now, refl)) in
-    let both = in_turn (λ d c. c ≡ d) step step old mid new at_mid same wrote
+    let wrote = one_call step mid new at_mid (same_outside_refl (r.at + r.len) 1) time follows in
+    let both = in_turn Unchanged step step old mid new at_mid same wrote
     (λ d c is. subst (λ (l : List ℕ). step d l) (sym is) (same_outside_refl (r.at + r.len) 1 d)) (λ d e c is f. subst (λ (l : List ℕ). step l c) is f) in
     weaker_step step (Closes r) old new both (λ d c image f. closes r old d c settled image is_open f)
 

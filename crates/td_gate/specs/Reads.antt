@@ -1,6 +1,6 @@
 -- What a call that writes nothing leaves of a disk. Reads compose by one law (`reads_in_turn`).
-use Rattle.std.specs.Prelude.{◌≡◌, ◌↔◌, ℕ}
-use Rattle.td_disk.specs.Disk.{DiskView, DiskState, IsDurable}
+use Rattle.std.specs.Prelude.{◌≡◌, ◌↔◌}
+use Rattle.td_disk.specs.Disk.{DiskView, IsDurable}
 use Rattle.td_gate.specs.CrashSafe.{CrashSafe, Unchanged}
 
 -- A CALL THAT ONLY READS: the disk's size stays, and it is lawful where it was. A lawful one reads as before, a crash at any moment of the call leaves

@@ -1,7 +1,7 @@
 -- A region of a disk: a payload, and the gate byte behind it.
-use Rattle.std.specs.Prelude.{◌≡◌, ◌≢◌, ◌⊎◌, ◌↔◌, ◌<◌, ◌≤◌, ℕ, ◌+◌, List, length, take, slice_index, Option, Some, None, Bool, true, false, Vec, if◌then◌else◌, ◌==◌}
+use Rattle.std.specs.Prelude.{◌≡◌, ◌≢◌, ◌⊎◌, ◌<◌, ◌≤◌, ℕ, ◌+◌, List, length, take, slice_index, Option, Some, None, Bool, true, false, Vec, if◌then◌else◌, ◌==◌}
 use Rattle.std.specs.declared.alloc.Global.{Global}
-use Rattle.td_disk.specs.Disk.{DiskView, DiskState, bytes_at, SameOutside}
+use Rattle.td_disk.specs.Disk.{DiskState, bytes_at, SameOutside}
 use Rattle.td_gate.specs.declared.region.Region.{Region}
 
 -- the gate byte
@@ -11,6 +11,10 @@ gate_of r image = slice_index image (r.at + r.len)
 -- the payload where the gate byte is 0xA5, else none
 abbrev pub opened : Region → List ℕ → Option (List ℕ)
 opened r image = if gate_of r image == 0xA5 then Some (bytes_at r.at r.len image) else None
+
+-- whether the gate byte is 0xA5
+abbrev pub is_open_in : Region → List ℕ → Bool
+is_open_in r image = gate_of r image == 0xA5
 
 -- the first n bytes of a payload, where there is one
 abbrev pub start_of : ℕ → Option (List ℕ) → Option (List ℕ)

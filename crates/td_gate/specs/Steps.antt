@@ -47,6 +47,14 @@ module _ {D : Type 0} (view : D → DiskView) where
   abbrev pub ClosesGate : Region → D → D → Type 0
   ClosesGate r old new = (view old).lawful → gate_of r (view new).state.bytes ≡ closed_byte (gate_of r (view old).state.bytes)
 
+  -- it reads closed
+  abbrev pub IsShut : Region → D → Type 0
+  IsShut r d = (view d).lawful × (opened r (view d).state.bytes ≡ None)
+
+  -- it reads closed then
+  abbrev pub ReadsClosed : Region → D → D → Type 0
+  ReadsClosed r old new = (view old).lawful → opened r (view new).state.bytes ≡ None
+
   -- A CLOSED REGION IS FILLED: a crash leaves it closed
   abbrev pub FillsSafely : Region → D → D → Type 0
   FillsSafely r old new = (view old).lawful → IsClosed r (view old).state → CrashSafe (Fills r) (view old).state (view new).state

@@ -1,13 +1,13 @@
 // A region behind a gate: the three steps that replace its payload, each a write and a sync, and reading it. No clause counts a
 // disk's calls: fuses test how many a step has, and `tests/put_calls.py` counts them on a real file.
-ghost use Rattle.std.specs.Prelude.{◌≡◌, ◌+◌, ◌≤◌, length, OnOk, IfOk, IfErr, ◌==◌, take};
+ghost use Rattle.std.specs.Prelude.{◌≡◌, ◌+◌, ◌≤◌, false, length, OnOk, IfOk, IfErr, take};
 ghost use Rattle.td_disk.specs.Calls.{Calls, IsKept, HasFailed};
 ghost use Rattle.td_gate.specs.States.{closed_region, closed_disk, filled_region, filled_disk};
-ghost use Rattle.td_gate.specs.Steps.{ClosesSafely, LeavesClosed, ClosesGate, FillsSafely, LeavesFilled, OpensSafely, OpensFilled, PutsSafely, LeavesOpen, LeavesOldOrNew, KeepsOthers, LeavesDurable, StaysDurable, IsFound, IsInEachImage};
+ghost use Rattle.td_gate.specs.Steps.{ClosesSafely, LeavesClosed, ClosesGate, ReadsClosed, IsShut, ChangesOnly, FillsSafely, LeavesFilled, OpensSafely, OpensFilled, PutsSafely, LeavesOpen, LeavesOldOrNew, KeepsOthers, LeavesDurable, StaysDurable, IsFound, IsInEachImage};
 ghost use Rattle.td_disk.specs.Disk.{bytes_at, SameOutside, IsDurable, CountsDevice, CountsFailures};
 ghost use Rattle.td_gate.specs.CrashSafe.{CrashSafe};
 ghost use Rattle.td_gate.specs.Reads.{IsRead};
-ghost use Rattle.td_gate.specs.Region.{gate_of, opened, opened_start, payload_of, payload_in, HasLength};
+ghost use Rattle.td_gate.specs.Region.{is_open_in, opened, opened_start, payload_of, payload_in, HasLength};
 
 use crate::error::GateError;
 use std::alloc::Global;
@@ -44,7 +44,7 @@ pub struct Filled<'a, D: Disk> {
     device: &'a mut D,
 }
 
-/// Closes the gate where it reads open.
+/// Closes the gate where it reads open, by a write and a sync.
 fn close_gate<D: Disk>(region: Region, device: &mut D) -> Result<(), Fault>
     requires { region.at + region.len + 1 ≤ (D.view device.old).capacity }
     ensures device { Calls D.view result device.old device.new }
@@ -53,13 +53,8 @@ fn close_gate<D: Disk>(region: Region, device: &mut D) -> Result<(), Fault>
     ensures gate { OnOk result (ClosesGate D.view region device.old device.new) }
     ensures durable { OnOk result (StaysDurable D.view device.old device.new) }
 {
-    // The answer fits a u64, and so does the place of the gate.
-    let _size = device.size();
-    let gate = region.at + region.len;
-    let mut byte = [0];
-    device.read(gate, &mut byte)?;
-    if byte[0] == OPEN {
-        write_and_sync(device, gate, &[CLOSED])?;
+    if region.close_if_open(device)? {
+        device.sync()?;
     }
     Ok(())
 }
@@ -109,6 +104,44 @@ impl Region {
         ensures durable { OnOk result (StaysDurable D.view device.old device.new) }
     {
         close_gate(*self, device)
+    }
+
+    /// Whether the gate is open. It refuses `Device` alone.
+    pub fn is_open<D: Disk>(&self, device: &mut D) -> Result<bool, Fault>
+        requires { self.now.at + self.now.len + 1 ≤ (D.view device.old).capacity }
+        ensures open { IfOk result (λ is. IsFound D.view (is_open_in self.now) is device.old) }
+        ensures failures { CountsFailures result (D.view device.old).failures (D.view device.new).failures }
+        ensures read { IsRead D.view device.old device.new }
+    {
+        // The answer fits a u64, and so each sum of places on the disk does.
+        let _size = device.size();
+        let mut gate = [0];
+        device.read(self.at + self.len, &mut gate)?;
+        Ok(gate[0] == OPEN)
+    }
+
+    /// Closes the gate where it reads open, with no sync, and answers whether it did. A gate that reads closed is not
+    /// written: torn, that write could read open over a torn payload. It refuses `Device` alone.
+    pub fn close_if_open<D: Disk>(&self, device: &mut D) -> Result<bool, Fault>
+        requires { self.now.at + self.now.len + 1 ≤ (D.view device.old).capacity }
+        ensures device { Calls D.view result device.old device.new }
+        ensures crash_safe { ClosesSafely D.view self.now device.old device.new }
+        ensures others { ChangesOnly D.view self.now.at (self.now.len + 1) device.old device.new }
+        ensures gate { OnOk result (ClosesGate D.view self.now device.old device.new) }
+        ensures closed { OnOk result (ReadsClosed D.view self.now device.old device.new) }
+
+        // One that is closed is not written, and nothing then.
+        ensures unwritten { IfOk result (λ wrote. wrote ≡ false → IsRead D.view device.old device.new) }
+        ensures needless { IfOk result (λ wrote. IsShut D.view self.now device.old → wrote ≡ false) }
+        ensures idle { IsShut D.view self.now device.old → IsRead D.view device.old device.new }
+    {
+        // As in `is_open`.
+        let _size = device.size();
+        if !self.is_open(device)? {
+            return Ok(false);
+        }
+        device.write(self.at + self.len, &[CLOSED])?;
+        Ok(true)
     }
 
     /// Opens the gate, by a write and a sync, so that what stands before it counts: where every image has the gate closed and this
@@ -284,21 +317,6 @@ impl Region {
         ensures read { IsRead D.view device.old device.new }
     {
         self.start_if_open(alloc, device, count)
-    }
-
-    /// Reads whether the gate is open.
-    fn is_open<D: Disk>(&self, device: &mut D) -> Result<bool, Fault>
-        requires { self.now.at + self.now.len + 1 ≤ (D.view device.old).capacity }
-        ensures open { IfOk result (λ is. (D.view device.old).lawful
-            → is ≡ (gate_of self.now (D.view device.old).state.bytes == 0xA5)) }
-        ensures failures { CountsFailures result (D.view device.old).failures (D.view device.new).failures }
-        ensures read { IsRead D.view device.old device.new }
-    {
-        // The answer fits a u64, and so each sum of places on the disk does.
-        let _size = device.size();
-        let mut gate = [0];
-        device.read(self.at + self.len, &mut gate)?;
-        Ok(gate[0] == OPEN)
     }
 
     /// Reads the gate, and the first bytes of the payload where it is open. It stands apart since

@@ -1,33 +1,13 @@
 // What a format begins with: zeros over all parts of a disk.
-ghost use Rattle.std.specs.Prelude.{◌≡◌, ◌≢◌, ◌+◌, ◌≤◌, false, slice_index, OnOk, IfOk};
+ghost use Rattle.std.specs.Prelude.{◌≡◌, ◌≢◌, ◌+◌, ◌≤◌, OnOk};
 ghost use Rattle.td_disk.specs.Calls.{Calls};
 ghost use Rattle.td_gate.specs.Region.{gate_of};
 ghost use Rattle.td_gate.specs.Steps.{ChangesOnly, LeavesDurable, StaysDurable};
 ghost use Rattle.td_head.specs.Images.{IsZero};
 ghost use Rattle.td_head.specs.Layout.{head_a, head_b, size_of};
 
-use crate::shape::{HEAD_LEN, Shape};
+use crate::shape::{Shape, head_region};
 use td_disk::{Disk, Fault};
-use td_gate::OPEN;
-
-/// Writes 00 to a gate that reads open, without a sync, and answers whether it did.
-fn write_closed<D: Disk>(device: &mut D, gate: u64) -> Result<bool, Fault>
-    requires { gate + 1 ≤ (D.view device.old).capacity }
-    ensures device { Calls D.view result device.old device.new }
-    ensures closed { OnOk result ((D.view device.old).lawful → slice_index (D.view device.new).state.bytes gate ≢ 0xA5) }
-    ensures others { OnOk result (ChangesOnly D.view gate 1 device.old device.new) }
-    ensures durable { IfOk result (λ is_written. is_written ≡ false
-        → StaysDurable D.view device.old device.new) }
-{
-    let mut byte = [0];
-    device.read(gate, &mut byte)?;
-    if byte[0] == OPEN {
-        device.write(gate, &[0])?;
-        Ok(true)
-    } else {
-        Ok(false)
-    }
-}
 
 /// Closes the gates of both heads, where they read open, and syncs where it closed one.
 fn close_heads<D: Disk>(device: &mut D) -> Result<(), Fault>
@@ -38,8 +18,8 @@ fn close_heads<D: Disk>(device: &mut D) -> Result<(), Fault>
     ensures others { OnOk result (ChangesOnly D.view 0 8258 device.old device.new) }
     ensures durable { OnOk result (StaysDurable D.view device.old device.new) }
 {
-    let is_first = write_closed(device, HEAD_LEN)?;
-    let is_second = write_closed(device, 2 * HEAD_LEN + 1)?;
+    let is_first = head_region(0).close_if_open(device)?;
+    let is_second = head_region(1).close_if_open(device)?;
     if is_first || is_second {
         device.sync()?;
     }

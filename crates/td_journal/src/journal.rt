@@ -14,7 +14,7 @@ ghost use Rattle.td_journal.specs.Steps.{HasRing, MayReadFrom, FitsRing, MayBeTo
 ghost use Rattle.td_journal.specs.Steps.{HasRing, ClearsSafely, LeavesGone, PutsEpoch, RefusesAppend};
 
 use crate::error::JournalError;
-use crate::keeping::{Counting, Keeping};
+use crate::kept::{Counting, Keeping};
 use crate::payload::{Counts, ENTRY_LEN, Submitted, cell_payload, floor_past, kept_by};
 use std::alloc::Global;
 use td_disk::Disk;

@@ -8,7 +8,7 @@
 
 mod error;
 mod journal;
-mod keeping;
+mod kept;
 pub mod laws;
 mod payload;
 

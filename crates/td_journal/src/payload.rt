@@ -7,7 +7,7 @@ ghost use Rattle.td_journal.specs.Parsed.{may_come_after, IsKeptBy};
 ghost use Rattle.td_journal.specs.Counts.{greatest_counted};
 ghost use Rattle.td_journal.specs.Numbers.{greatest, may_come, raised};
 
-use crate::keeping::Keeping;
+use crate::kept::Keeping;
 use std::alloc::{AllocError, Global};
 use td_gate::fields::{FRONT_LEN, Front, i64_at, named, push_i64, push_u64, u64_at};
 use td_stamp::{Batch, Entry, Rec};

@@ -10,9 +10,9 @@
 mod error;
 mod file;
 mod snapshot;
-mod taking;
+mod take;
 
 pub use error::LiveError;
 pub use file::ReadOnlyFile;
 pub use snapshot::Snapshot;
-pub use taking::take_snapshot;
+pub use take::take_snapshot;

@@ -3,8 +3,8 @@ use Rattle.std.proofs.Common.{inl, inr, ◌≡◌, ℕ, Bool, List, [], ◌∷�
 use Rattle.std.specs.Prelude.{Vec, Option, Some, None, Result, Ok, Err, option_map, IfOk, IfSome, IfNone, ◌<◌}
 use Rattle.td_journal.specs.declared.payload.Submitted.{Submitted}
 use Rattle.td_journal.specs.Numbers.{greatest}
-use Rattle.td_orders.specs.declared.asking.Asked.{Asked}
-use Rattle.td_orders.specs.declared.asking.Asked.TheVariants.{One, Epochs}
+use Rattle.td_orders.specs.declared.source.Asked.{Asked}
+use Rattle.td_orders.specs.declared.source.Asked.TheVariants.{One, Epochs}
 use Rattle.td_orders.specs.declared.order.Order.{Order}
 use Rattle.td_orders.specs.declared.order.Order.TheVariants as order
 use Rattle.td_orders.specs.Orders.{submissions, new_after}

@@ -16,8 +16,8 @@ use Rattle.td_questions.specs.Words.{fold_of}
 use Rattle.td_orders.specs.declared.order.FeedLine.{FeedLine}
 use Rattle.td_orders.specs.declared.order.FeedLine.TheVariants.{Data, Request, At, Cut, Seen, Ask, Copy}
 use Rattle.td_orders.specs.declared.order.Order.{Order}
-use Rattle.td_orders.specs.declared.asking.Asked.{Asked}
-use Rattle.td_orders.specs.declared.asking.Asked.TheVariants.{One}
+use Rattle.td_orders.specs.declared.source.Asked.{Asked}
+use Rattle.td_orders.specs.declared.source.Asked.TheVariants.{One}
 use Rattle.td_orders.specs.declared.order.Order.TheVariants as order
 use Rattle.td_orders.specs.declared.note.Flaw.{Flaw}
 use Rattle.td_orders.specs.Orders.{Orders, Gives, no_orders, numbered, order_at, has_no_number, may_be_placed, is_between, with_cut, with_request, with_place, with_seen, with_answer, with_question, with_copy, with_line, feed_line_of, service_line_of, orders_from, and_then, ended}

@@ -19,11 +19,11 @@ use Rattle.td_orders.specs.declared.order.FeedLine.{FeedLine}
 use Rattle.td_orders.specs.declared.order.FeedLine.TheVariants.{Data, Request}
 use Rattle.td_orders.specs.declared.order.Order.{Order}
 use Rattle.td_orders.specs.declared.order.Order.TheVariants as order
-use Rattle.td_orders.specs.declared.reading.Reading.{Reading as AnyReading}
-use Rattle.td_orders.specs.declared.asking.Asked.{Asked}
-use Rattle.td_orders.specs.declared.asking.Room.{Room}
+use Rattle.td_orders.specs.declared.epoch.Reading.{Reading as AnyReading}
+use Rattle.td_orders.specs.declared.source.Asked.{Asked}
+use Rattle.td_orders.specs.declared.source.Room.{Room}
 use Rattle.td_store.specs.standing.Standing.{submission}
-use Rattle.td_orders.specs.declared.asking.Asked.TheVariants.{One, Epochs}
+use Rattle.td_orders.specs.declared.source.Asked.TheVariants.{One, Epochs}
 use Rattle.td_orders.specs.Noted.{Aside, flaw_of, cause_in}
 use Rattle.td_orders.specs.Orders.{Orders, no_orders, numbered, is_between, service_line_of, with_line, with_order, submissions, notes_in}
 

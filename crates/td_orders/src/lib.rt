@@ -6,17 +6,17 @@
 //! For example `0 7 1`, `.` and `cut` are two orders: to submit a batch of one record as the next epoch, and to cut.
 #![tactic(auto)]
 
-mod asking;
+mod epoch;
 mod excerpt;
 mod file_name;
 pub mod laws;
 mod line_reader;
 mod note;
 mod order;
-mod reading;
+mod source;
 
-pub use asking::{Asked, Asking, Listed, Room, Streamed};
 pub use excerpt::Excerpt;
 pub use file_name::FileName;
 pub use note::{Cause, Flaw, Note, write_note};
 pub use order::{CopyTo, FeedLine, Order, Place, read_orders};
+pub use source::{Asked, Asking, Listed, Room, Streamed};

@@ -9,10 +9,10 @@ ghost use Rattle.td_orders.specs.Orders.{is_cut, request_of, positive, place_of,
 ghost use Rattle.td_orders.specs.Lines.{line_in};
 ghost use Rattle.td_orders.specs.Orders.{no_orders, orders_of, is_of_input, IsAccepted, IsFirstLine, Gives};
 
-use crate::asking::Room;
 use crate::file_name::FileName;
 use crate::line_reader::line_in;
 use crate::note::Note;
+use crate::source::Room;
 use std::alloc::Global;
 use std::marker::Model;
 use td_console::{

@@ -5,15 +5,15 @@
 //! a law over `td_orders`, which reads the lines again. For example an epoch of one record is dumped as its line and a `.`.
 #![tactic(auto)]
 
-mod dumping;
-mod dumping_places;
-mod formatting;
+mod disk_lines;
+mod epoch_lines;
 pub mod laws;
+mod new_disk;
+mod placed_lines;
 mod plan_text;
-mod showing;
 
-pub use dumping::dump;
-pub use dumping_places::dump_placed;
-pub use formatting::{format, shape_of};
+pub use disk_lines::show;
+pub use epoch_lines::dump;
+pub use new_disk::{format, shape_of};
+pub use placed_lines::dump_placed;
 pub use plan_text::read_plan;
-pub use showing::show;

@@ -2,7 +2,7 @@
 use Rattle.std.proofs.Common.{◌≡◌, ℕ, zero, suc, List, [], ◌∷◌, ◌++◌, map, refl, sym, ap, ◌∙◌}
 use Rattle.td_stamp.specs.States.{StateList}
 use Rattle.td_slots.specs.declared.slots.Checkpoint.{Checkpoint}
-use Rattle.td_states.specs.declared.renaming.Rename.{Rename}
+use Rattle.td_states.specs.declared.rename.Rename.{Rename}
 use Rattle.td_states.specs.declared.line.StatesLine.{StatesLine}
 use Rattle.td_states.specs.declared.line.StatesLine.TheVariants.{Last}
 use Rattle.td_states.specs.Spelled.{renamed, last_said, state_said, sayings, Spells}

@@ -5,7 +5,7 @@ use Rattle.std.proofs.lemmas.Grind.{common_steps}
 use Rattle.std.specs.Borrow.{Bor}
 use Rattle.std.specs.List.{slice_split, onto_first}
 use Rattle.std.specs.Option.{option_map_or}
-use Rattle.td_states.specs.declared.renaming.Rename.{Rename}
+use Rattle.td_states.specs.declared.rename.Rename.{Rename}
 use Rattle.td_states.specs.Renames.{rename_in, rename_of}
 
 -- no byte of the list is c

@@ -12,7 +12,7 @@ use Rattle.td_plan.specs.Text.{text_lines}
 use Rattle.td_slots.specs.declared.slots.Checkpoint.{Checkpoint}
 use Rattle.td_slots.specs.Parsed.{last_place, may_come_after}
 use Rattle.td_store.specs.standing.Told.{folds_of}
-use Rattle.td_states.specs.declared.renaming.Rename.{Rename}
+use Rattle.td_states.specs.declared.rename.Rename.{Rename}
 use Rattle.td_states.specs.declared.line.StatesLine.{StatesLine}
 use Rattle.td_states.specs.declared.line.StatesLine.TheVariants.{PassedOver, Kept, Last, Held}
 use Rattle.td_states.specs.declared.error.StatesFault.{StatesFault}

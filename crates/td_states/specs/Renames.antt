@@ -2,7 +2,7 @@
 use Rattle.std.specs.Prelude.{◌≡◌, ℕ, ◌==◌, List, [], ◌∷◌, map, Option, Some, None}
 use Rattle.std.specs.List.{slice_split}
 use Rattle.td_plan.specs.Text.{natural_of}
-use Rattle.td_states.specs.declared.renaming.Rename.{Rename}
+use Rattle.td_states.specs.declared.rename.Rename.{Rename}
 
 -- the renaming that two numbers make
 abbrev pub rename_by : Option ℕ → Option ℕ → Option Rename

@@ -6,7 +6,7 @@ use Rattle.td_stamp.specs.Orders.{state_key_cmp}
 use Rattle.td_gate.specs.Fields.{is_chain}
 use Rattle.td_slots.specs.declared.slots.Checkpoint.{Checkpoint}
 use Rattle.td_slots.specs.Parsed.{last_place}
-use Rattle.td_states.specs.declared.renaming.Rename.{Rename}
+use Rattle.td_states.specs.declared.rename.Rename.{Rename}
 use Rattle.td_states.specs.declared.line.StatesLine.{StatesLine}
 use Rattle.td_states.specs.declared.line.StatesLine.TheVariants.{PassedOver, Kept, Last, Held}
 use Rattle.td_states.specs.declared.error.StatesFault.{StatesFault}

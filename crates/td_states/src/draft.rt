@@ -6,7 +6,7 @@ ghost use Rattle.td_states.specs.Steps.{begun, first_read, next_read, or_fault, 
 
 use crate::error::{StatesError, StatesFault};
 use crate::line::StatesLine;
-use crate::renaming::{Rename, renamed};
+use crate::rename::{Rename, renamed};
 use std::alloc::Global;
 use std::marker::Model;
 use td_gate::fields::named;

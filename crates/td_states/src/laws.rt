@@ -10,7 +10,7 @@ ghost use Rattle.td_journal.specs.declared.payload.Submitted.{Submitted as AnySu
 ghost use Rattle.td_store.specs.standing.Standing.{Standing};
 ghost use Rattle.td_store.specs.standing.Stops.{Stands};
 ghost use Rattle.td_store.specs.standing.Tells.{checkpoint_of};
-ghost use Rattle.td_states.specs.declared.renaming.Rename.{Rename as AnyRename};
+ghost use Rattle.td_states.specs.declared.rename.Rename.{Rename as AnyRename};
 ghost use Rattle.td_states.specs.declared.error.StatesFault.{StatesFault as AnyFault};
 ghost use Rattle.td_states.specs.declared.error.StatesError.TheVariants.{Line as AtLine};
 ghost use Rattle.td_states.specs.Lines.{checkpoint_text};

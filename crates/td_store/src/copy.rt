@@ -6,7 +6,7 @@
 //! So no stop in the middle needs a rule of its own.
 //!
 //! For example a journal of 100 cells that is always full becomes one of 1,000, by a copy between two feeds.
-mod copying;
+mod disk;
 mod epochs;
 mod error;
 pub mod laws;
@@ -15,7 +15,7 @@ mod told;
 mod until;
 mod zeros;
 
-pub use copying::copy;
+pub use disk::copy;
 pub use error::CopyError;
 pub use room::check_room;
 pub use told::write_told;

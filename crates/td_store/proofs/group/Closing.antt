@@ -1,66 +1,17 @@
--- What the closing of a gate makes of an image, and that of the gates of several cells.
-use Rattle.std.proofs.Common.{◌≡◌, ◌⊎◌, inl, inr, ⊎_elim, ℕ, ◌+◌, ◌<◌, ◌≤◌, List, [], ◌∷◌, length, get_or, drop, Some, None, refl, sym, ap, ◌∙◌, subst, arith}
+-- What the closing of the gates of several cells makes of an image.
+use Rattle.std.proofs.Common.{◌≡◌, ◌⊎◌, inl, inr, ⊎_elim, ℕ, ◌+◌, ◌<◌, ◌≤◌, List, get_or, None, refl, sym, ◌∙◌, subst, arith}
 use Rattle.std.proofs.lemmas.Bool.{cases_eq, cases_lt}
-use Rattle.std.proofs.lemmas.List.{ext_get_or, get_or-take, get_or-drop}
-use Rattle.td_disk.specs.Disk.{DiskState, bytes_at, ImagesFollow, IsDurable, NoNewImages, SameOutside, TimePasses}
+use Rattle.std.proofs.lemmas.List.{ext_get_or}
+use Rattle.td_disk.specs.Disk.{DiskState, IsDurable, SameOutside}
 use Rattle.td_gate.specs.CrashSafe.{CrashSafe, Unchanged}
 use Rattle.td_gate.specs.declared.region.Region.{Region}
-use Rattle.td_gate.specs.Region.{gate_of, opened, IsSettled, Closes}
+use Rattle.td_gate.specs.Region.{opened, IsSettled, Closes}
 use Rattle.td_journal.specs.declared.journal.Journal.{Journal}
 use Rattle.td_journal.specs.Cell.{cell_of}
 use Rattle.td_store.specs.group.Groups.{AreShut, ChangesCells, ClosesSome}
-use Rattle.td_store.proofs.group.Moments.{HasClock, one_call, in_turn, at_the_end, weaker_step}
-use Rattle.td_store.proofs.group.Pieces.{opened_open}
-use Rattle.td_store.proofs.group.Places.{CellsApart, bytes_same, opened_beside, one_cell, no_change, then_change, epochs_apart}
-use Rattle.td_store.proofs.group.Ready.{wider, other_cell, later_cell, shut_none}
-
--- one byte
-pub bytes_one : (at : ℕ) (c : List ℕ) (b : ℕ) → bytes_at at 1 c ≡ b ∷ [] → get_or c at 0 ≡ b
-bytes_one at c b is = ap (λ i. get_or c i 0) (omega arith) ∙ sym (get_or-drop at c 0 0) ∙ sym (get_or-take 1 (drop at c) 0 0 (omega arith)) ∙ ap (λ (l : List ℕ). get_or l 0 0) is
-
--- the gate as it was read
-pub gate_read : (at : ℕ) (c buf : List ℕ) → buf ≡ bytes_at at 1 c → length buf ≡ 1 → get_or buf 0 0 ≡ get_or c at 0
-gate_read at c buf is len = ap (λ (l : List ℕ). get_or l 0 0) is ∙ get_or-take 1 (drop at c) 0 0 (omega arith) ∙ get_or-drop at c 0 0 ∙ ap (λ i. get_or c i 0) (omega arith)
-
--- a write of the gate is one of the region
-pub in_region : (r : Region) (d c : List ℕ) → SameOutside (r.at + r.len) 1 d c → SameOutside r.at (r.len + 1) d c
-in_region r d c f = record { size = f.size; before = λ i l. f.before i (omega (arith, l)); after = λ i l. f.after i (omega (arith, l)) }
-
--- THE GATE OF AN OPEN REGION is written: the region is as it was or closed
-closes : (r : Region) (state : DiskState) (d c : List ℕ) → IsSettled r state → state.images d → gate_of r state.bytes ≡ 165 → SameOutside (r.at + r.len) 1 d c → Closes r d c
-closes r state d c settled image was f = record {
-  others = in_region r d c f;
-  region = elim (cases_eq (gate_of r c) 165) [
-    | inl still ↦
-        let before : gate_of r d ≡ 165 = (settled d image).each (r.at + r.len) (omega arith) (omega arith) ∙ was in
-        let payload : bytes_at r.at r.len c ≡ bytes_at r.at r.len d = bytes_same r.at r.len d c f.size (λ i low high. f.before i high) in
-        inl (opened_open r c still ∙ ap (λ (l : List ℕ). Some l) payload ∙ sym (opened_open r d before))
-    | inr closed ↦ inr (shut_none r c closed)
-  ];
-}
-
--- an open gate is none of a closed region
-pub not_open : (r : Region) (c : List ℕ) → gate_of r c ≡ 165 → opened r c ≡ None → ⊥
-not_open r c is none = let both : None ≡ Some (bytes_at r.at r.len c) = sym none ∙ opened_open r c is in absurd cc
-
--- it was read, and then written
-pub close_safe : (r : Region) (old mid new : DiskState) → HasClock old → HasClock mid → IsSettled r old → gate_of r old.bytes ≡ 165
-    → NoNewImages old mid → TimePasses old mid → ImagesFollow (SameOutside (r.at + r.len) 1) mid new → TimePasses mid new → CrashSafe (Closes r) old new
-close_safe r old mid new at_old at_mid settled is_open no_more time follows time_too =
-    let step = SameOutside (r.at + r.len) 1 in
-    let read = one_call Unchanged old mid at_old (λ c. refl) time (λ c now. (c, no_more c now, refl)) in
-    let wrote = one_call step mid new at_mid (λ c. record { size = refl; before = λ i l. refl; after = λ i l. refl }) time_too follows in
-    let both = in_turn Unchanged step step old mid new at_mid read wrote
-    (λ d c is. subst (λ (l : List ℕ). step d l) (sym is) (record { size = refl; before = λ i l. refl; after = λ i l. refl })) (λ d e c is f. subst (λ (l : List ℕ). step l c) is f) in record {
-      later = both.later;
-      each = λ c left. let from = both.each c left in (from.0, from.1, closes r old from.0 c settled from.1 is_open from.2);
-      before = λ t c le left. ⊎_elim (λ was. inl was) (λ from. inr (from.0, from.1, closes r old from.0 c settled from.1 is_open from.2)) (both.before t c le left);
-    }
-
--- a read closes nothing, nor does anything that changes no image
-pub unchanged_closes : (r : Region) (old new : DiskState) → CrashSafe Unchanged old new → CrashSafe (Closes r) old new
-unchanged_closes r old new safe = weaker_step Unchanged (Closes r) old new safe
-    (λ d c is. record { others = subst (λ (l : List ℕ). SameOutside r.at (r.len + 1) d l) (sym is) (record { size = refl; before = λ i l. refl; after = λ i l. refl }); region = inl (ap (opened r) is) })
+use Rattle.td_store.proofs.group.Moments.{HasClock, in_turn, at_the_end}
+use Rattle.td_store.proofs.group.Places.{CellsApart, opened_beside, one_cell, no_change, then_change, epochs_apart}
+use Rattle.td_store.proofs.group.Ready.{wider, other_cell, later_cell}
 
 -- SEVERAL CELLS
 pub some_same : (j : Journal) (e n : ℕ) (d : List ℕ) → ClosesSome j e n d d

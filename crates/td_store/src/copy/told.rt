@@ -7,7 +7,6 @@ ghost use Rattle.td_disk.specs.Calls.{Calls, KeepsDevice};
 ghost use Rattle.td_plan.specs.Lines.{Line};
 ghost use Rattle.td_disk.specs.Disk.{IsDurable};
 ghost use Rattle.td_gate.specs.CrashSafe.{CrashSafe, Unchanged};
-ghost use Rattle.td_gate.specs.Region.{opened};
 ghost use Rattle.td_head.specs.Layout.{size_of};
 ghost use Rattle.td_slots.specs.Slot.{slot, are_states};
 ghost use Rattle.td_journal.specs.Cell.{is_batch};
@@ -28,7 +27,6 @@ use crate::group::ring_of;
 use crate::standing::{KeeperError, Recovered, slots_of};
 use std::alloc::Global;
 use td_disk::{Disk, Fault};
-use td_gate::{OPEN, Region};
 use td_head::{Shape, head_region};
 use td_plan::Plan;
 use td_slots::Checkpoint;
@@ -84,8 +82,8 @@ fn is_headed<D: Disk>(device: &mut D) -> Result<bool, Fault>
     td_gate::laws::unchanged::<D>();
     td_gate::laws::reads_in_turn::<D>();
     device.sync()?;
-    let is_first = reads_open(device, head_region(0))?;
-    let is_second = reads_open(device, head_region(1))?;
+    let is_first = head_region(0).is_open(device)?;
+    let is_second = head_region(1).is_open(device)?;
     Ok(is_first || is_second)
 }
 
@@ -190,21 +188,4 @@ fn write_checkpoint<D: Disk>(
         &checkpoint.states,
     )?;
     Ok(())
-}
-
-/// Whether the gate of a region reads open.
-fn reads_open<D: Disk>(device: &mut D, region: Region) -> Result<bool, Fault>
-    requires { region.at + region.len + 1 ≤ (D.view device.old).capacity }
-    ensures device { Calls D.view result device.old device.new }
-    ensures same { (D.view device.old).lawful → (D.view device.new).state.bytes ≡ (D.view device.old).state.bytes }
-    ensures unchanged { (D.view device.old).lawful → CrashSafe Unchanged (D.view device.old).state (D.view device.new).state }
-    ensures durable { (D.view device.old).lawful → IsDurable (D.view device.old).state → IsDurable (D.view device.new).state }
-    ensures open { IfOk result (λ is_open. is_open ≡ true → (D.view device.old).lawful → opened region (D.view device.old).state.bytes ≡ None → ⊥) }
-    ensures closed { IfOk result (λ is_open. is_open ≡ false → (D.view device.old).lawful → opened region (D.view device.old).state.bytes ≡ None) }
-{
-    td_gate::laws::unchanged::<D>();
-    let _size = device.size();
-    let mut gate = [0];
-    device.read(region.at + region.len, &mut gate)?;
-    Ok(gate[0] == OPEN)
 }

@@ -1,16 +1,15 @@
-//! The cells of a group, all but the first gate: they are written, and synced once.
+//! The ring of a disk, and the cells of a group in it: all but the first gate are written, and synced once.
 //!
 //! A cell behind the first may be torn and open, as long as the first is closed. That no payload is written over an open gate
 //! holds for each cell that may count: the first one, and one that is put alone (`crate::standing::submit_batch`).
 //!
 //! Epochs that follow one another stand in neighbouring cells, up to the ring's end, and one write does for such a run. The first
 //! payload has a write of its own: one that goes on into the next cell goes over the first gate, and torn it could open that.
-ghost use Rattle.std.specs.Prelude.{◌≡◌, ◌+◌, ◌-◌, ◌*◌, ◌%◌, ◌^◌, ◌<◌, ◌≤◌, false, length, None, OnOk, IfOk, IfErr};
+ghost use Rattle.std.specs.Prelude.{◌≡◌, ◌+◌, ◌-◌, ◌*◌, ◌%◌, ◌^◌, ◌<◌, ◌≤◌, length, OnOk, IfOk, IfErr};
 ghost use Rattle.td_disk.specs.Calls.{Calls};
-ghost use Rattle.td_disk.specs.Disk.{IsDurable, SameOutside};
-ghost use Rattle.td_gate.specs.CrashSafe.{CrashSafe, Unchanged};
-ghost use Rattle.td_gate.specs.Reads.{IsRead};
-ghost use Rattle.td_gate.specs.Region.{opened, IsClosed, IsFilled, IsSettled, Closes};
+ghost use Rattle.td_disk.specs.Disk.{IsDurable};
+ghost use Rattle.td_gate.specs.CrashSafe.{CrashSafe};
+ghost use Rattle.td_gate.specs.Region.{IsClosed, IsFilled};
 ghost use Rattle.td_head.specs.Layout.{size_of};
 ghost use Rattle.td_journal.specs.Steps.{HasRing};
 ghost use Rattle.td_journal.specs.Cell.{cell_of, cell_len};
@@ -20,12 +19,9 @@ ghost use Rattle.td_journal.specs.declared.error.JournalError.TheVariants.{Memor
 
 use std::alloc::Global;
 use td_disk::{Disk, Fault};
-use td_gate::{OPEN, Region};
+use td_gate::OPEN;
 use td_head::Shape;
 use td_journal::{Journal, JournalError, Submitted};
-
-/// What is written to a gate to close it.
-const CLOSED: u8 = 0;
 
 /// The ring of cells of a disk of this shape, of which those of the epochs up to `kept` may be overwritten.
 pub fn ring_of(shape: &Shape, kept: u64) -> Journal
@@ -183,31 +179,4 @@ pub(crate) fn fill_cells<D: Disk>(
     device.write(journal.cell_of(first).at, written.payload)?;
     write_cells(journal, device, first + 1, count, written.others)?;
     device.sync()
-}
-
-/// Closes the gate of a region where it reads open, with no sync, and answers whether it did. A gate that reads closed is not written: torn,
-/// that write could read open.
-pub(crate) fn close_gate<D: Disk>(region: Region, device: &mut D) -> Result<bool, Fault>
-    requires { region.at + region.len + 1 ≤ (D.view device.old).capacity }
-    ensures device { Calls D.view result device.old device.new }
-    ensures crash_safe { (D.view device.old).lawful → IsSettled region (D.view device.old).state
-        → CrashSafe (Closes region) (D.view device.old).state (D.view device.new).state }
-    ensures others { (D.view device.old).lawful
-        → SameOutside region.at (region.len + 1) (D.view device.old).state.bytes (D.view device.new).state.bytes }
-    ensures closed { OnOk result ((D.view device.old).lawful → opened region (D.view device.new).state.bytes ≡ None) }
-    ensures unwritten { IfOk result (λ wrote. wrote ≡ false → IsRead D.view device.old device.new) }
-    ensures needless { IfOk result (λ wrote. (D.view device.old).lawful → opened region (D.view device.old).state.bytes ≡ None → wrote ≡ false) }
-    ensures idle { (D.view device.old).lawful → opened region (D.view device.old).state.bytes ≡ None
-        → CrashSafe Unchanged (D.view device.old).state (D.view device.new).state }
-{
-    td_gate::laws::unchanged::<D>();
-    let _size = device.size();
-    let gate = region.at + region.len;
-    let mut byte = [0];
-    device.read(gate, &mut byte)?;
-    if byte[0] != OPEN {
-        return Ok(false);
-    }
-    device.write(gate, &[CLOSED])?;
-    Ok(true)
 }

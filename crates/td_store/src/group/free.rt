@@ -15,7 +15,6 @@ ghost use Rattle.td_journal.specs.Steps.{HasRing};
 ghost use Rattle.td_store.specs.group.Groups.{AreShut, ClosesSome};
 ghost use Rattle.td_store.specs.standing.Steps.{ClosesFree, WritesOnlyIfOpen};
 
-use crate::group::cells::close_gate;
 use crate::group::laws;
 use td_disk::{Disk, Fault};
 use td_journal::Journal;
@@ -45,7 +44,7 @@ fn close_gates<D: Disk>(
     let _size = device.size();
     let mut wrote = false;
     for k in 0..count {
-        wrote |= close_gate(journal.cell_of(first + k), device)?;
+        wrote |= journal.cell_of(first + k).close_if_open(device)?;
     }
     Ok(wrote)
 }

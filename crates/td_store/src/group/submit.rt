@@ -23,7 +23,7 @@ ghost use Rattle.td_store.specs.standing.Tells.{Tells, Keeps, TellsSince};
 ghost use Rattle.td_store.specs.group.Groups.{gated, AllFew, AreBatches, AreFresh, HasRoomFor, Spares, EachReady, ClosesNext, touched};
 ghost use Rattle.td_store.specs.standing.Steps.{HasPlace, SubmitsGroup};
 
-use crate::group::cells::{Written, close_gate, fill_cells, gated};
+use crate::group::cells::{Written, fill_cells, gated};
 use crate::group::laws;
 use crate::standing::submit_batch;
 use std::alloc::Global;
@@ -95,7 +95,7 @@ fn close_ahead<D: Disk>(
         return Ok(());
     }
     let _size = device.size();
-    close_gate(journal.cell_of(first + count), device)?;
+    journal.cell_of(first + count).close_if_open(device)?;
     Ok(())
 }
 

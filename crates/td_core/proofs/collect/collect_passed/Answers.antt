@@ -6,7 +6,7 @@ use Rattle.td_core.proofs.collect.collect_passed.Goals as goal
 
 pub returns-clause-ok : goal.returns-clause-ok
 returns-clause-ok c =
-    let old = c.args.floor.now in
+    let old = c.args.parts.now in
     let last = c.last_passed-last.result in
     let many = ap length c.last_passed-last.ensures.passed ∙ as_many (old.collected + 1) (last - old.collected) in
     let after = c.last_passed-last.ensures.after in

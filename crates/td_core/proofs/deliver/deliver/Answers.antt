@@ -15,66 +15,66 @@ use Rattle.td_core.proofs.deliver.deliver.Goals as goal
 
 pub send-requires : goal.send-requires
 send-requires g c =
-    can_send g.L.Law.answers c.args.floor.now c.args.done.now c.requires.hall c.requires.out c.vertex-vertex.result c.time-time.result.now
+    can_send g.L.Law.answers c.args.parts.now c.args.done.now c.requires.hall c.requires.out c.vertex-vertex.result c.time-time.result.now
     (c.vertex-vertex.ensures ∙ ap (λ task. task.vertex) c.task-task.ensures) (c.time-time.ensures ∙ ap (λ task. task.time) c.task-task.ensures)
     c.known.ensures.reached_in_order.numbers c.known.ensures.sends_of_plan c.known.ensures.turns_of_plan
 
 pub send_new-requires-clause-can : goal.send_new-requires-clause-can
 send_new-requires-clause-can g c =
-    can_send g.L.Law.answers c.args.floor.now c.args.done.now c.requires.hall c.requires.out c.vertex-vertex.result c.time-time.result.now
+    can_send g.L.Law.answers c.args.parts.now c.args.done.now c.requires.hall c.requires.out c.vertex-vertex.result c.time-time.result.now
     (c.vertex-vertex.ensures ∙ ap (λ task. task.vertex) c.task-task.ensures) (c.time-time.ensures ∙ ap (λ task. task.time) c.task-task.ensures)
     c.known.ensures.reached_in_order.numbers c.known.ensures.sends_of_plan c.known.ensures.turns_of_plan
 
 pub send_new-requires-clause-plain : goal.send_new-requires-clause-plain
 send_new-requires-clause-plain g c =
-    one_time g.L.Law.answers c.args.floor.now c.args.done.now c.requires.hall c.requires.out c.vertex-vertex.result c.time-time.result.now
+    one_time g.L.Law.answers c.args.parts.now c.args.done.now c.requires.hall c.requires.out c.vertex-vertex.result c.time-time.result.now
     (c.vertex-vertex.ensures ∙ ap (λ task. task.vertex) c.task-task.ensures) (c.time-time.ensures ∙ ap (λ task. task.time) c.task-task.ensures)
     c.known.ensures.reached_in_order.tasks Distinct (sym (ap (λ task. task.kind) c.task-task.ensures) ∙ (sym c.kind.ensures ∙ c.in-Distinct.is)) (λ bound. refl)
 
 pub come_out-requires-clause-can : goal.come_out-requires-clause-can
 come_out-requires-clause-can g c =
-    can_send g.L.Law.answers c.args.floor.now c.args.done.now c.requires.hall c.requires.out c.vertex-vertex.result c.time-time.result.now
+    can_send g.L.Law.answers c.args.parts.now c.args.done.now c.requires.hall c.requires.out c.vertex-vertex.result c.time-time.result.now
     (c.vertex-vertex.ensures ∙ ap (λ task. task.vertex) c.task-task.ensures) (c.time-time.ensures ∙ ap (λ task. task.time) c.task-task.ensures)
     c.known.ensures.reached_in_order.numbers c.known.ensures.sends_of_plan c.known.ensures.turns_of_plan
 
 pub come_out-requires-clause-plain : goal.come_out-requires-clause-plain
 come_out-requires-clause-plain g c =
-    one_time g.L.Law.answers c.args.floor.now c.args.done.now c.requires.hall c.requires.out c.vertex-vertex.result c.time-time.result.now
+    one_time g.L.Law.answers c.args.parts.now c.args.done.now c.requires.hall c.requires.out c.vertex-vertex.result c.time-time.result.now
     (c.vertex-vertex.ensures ∙ ap (λ task. task.vertex) c.task-task.ensures) (c.time-time.ensures ∙ ap (λ task. task.time) c.task-task.ensures)
     c.known.ensures.reached_in_order.tasks Output (sym (ap (λ task. task.kind) c.task-task.ensures) ∙ (sym c.kind.ensures ∙ c.in-Output.is)) (λ bound. refl)
 
 pub send-requires-in-Enter : goal.send-requires-in-Enter
 send-requires-in-Enter g c =
-    can_send g.L.Law.answers c.args.floor.now c.args.done.now c.requires.hall c.requires.out c.vertex-vertex.result c.time-time.result.now
+    can_send g.L.Law.answers c.args.parts.now c.args.done.now c.requires.hall c.requires.out c.vertex-vertex.result c.time-time.result.now
     (c.vertex-vertex.ensures ∙ ap (λ task. task.vertex) c.task-task.ensures) (c.time-time.ensures ∙ ap (λ task. task.time) c.task-task.ensures)
     c.known.ensures.reached_in_order.numbers c.known.ensures.sends_of_plan c.known.ensures.turns_of_plan
 
 pub keep-requires-clause-there : goal.keep-requires-clause-there
 keep-requires-clause-there g c =
-    subst (λ n. n < length c.args.floor.now.shards.items) (sym (c.shard.ensures ∙ ap (λ task. task.shard) c.task-task.ensures))
-    (shard_there g.L.Law.answers c.args.floor.now c.args.done.now c.args.port c.args.recs.now c.requires.hall c.requires.out c.requires.content c.known.ensures.reached_in_order.tasks
+    subst (λ n. n < length c.args.parts.now.shards.items) (sym (c.shard.ensures ∙ ap (λ task. task.shard) c.task-task.ensures))
+    (shard_there g.L.Law.answers c.args.parts.now c.args.done.now c.args.port c.args.recs.now c.requires.hall c.requires.out c.requires.content c.known.ensures.reached_in_order.tasks
     c.known.ensures.reached_in_order.numbers)
 
 pub keep-requires-clause-some : goal.keep-requires-clause-some
 keep-requires-clause-some g c =
-    some_records g.L.Law.answers c.args.floor.now c.args.done.now c.args.port c.args.recs.now c.requires.hall c.requires.out c.requires.content c.known.ensures.reached_in_order.tasks
+    some_records g.L.Law.answers c.args.parts.now c.args.done.now c.args.port c.args.recs.now c.requires.hall c.requires.out c.requires.content c.known.ensures.reached_in_order.tasks
     c.known.ensures.reached_in_order.numbers
 
 pub keep-requires-clause-of_plan : goal.keep-requires-clause-of_plan
 keep-requires-clause-of_plan g c =
-    own_place g.L.Law.answers c.args.floor.now c.args.done.now c.requires.hall c.requires.out c.vertex-vertex.result c.time-time.result.now
+    own_place g.L.Law.answers c.args.parts.now c.args.done.now c.requires.hall c.requires.out c.vertex-vertex.result c.time-time.result.now
     (c.vertex-vertex.ensures ∙ ap (λ task. task.vertex) c.task-task.ensures) (c.time-time.ensures ∙ ap (λ task. task.time) c.task-task.ensures) c.known.ensures.sends_of_plan
 
 pub returns-in-Input-clause-ok : goal.returns-in-Input-clause-ok
 returns-in-Input-clause-ok g c =
-    let floor = c.args.floor.now in
+    let parts = c.args.parts.now in
     let task = c.args.done.now in
-    sent_as g.L.Law.answers c.known.ensures.counted.append task c.args.port c.args.recs.now floor floor c.known.ensures.in_parts.stamps Input
-    (sym (ap (λ task. task.kind) c.task-task.ensures) ∙ (sym c.kind.ensures ∙ c.in-Input.is)) refl [] floor.seen floor.outputs (nothing_sent floor task.vertex task.time) refl refl refl
+    sent_as g.L.Law.answers c.known.ensures.counted.append task c.args.port c.args.recs.now parts parts c.known.ensures.in_parts.stamps Input
+    (sym (ap (λ task. task.kind) c.task-task.ensures) ∙ (sym c.kind.ensures ∙ c.in-Input.is)) refl [] parts.seen parts.outputs (nothing_sent parts task.vertex task.time) refl refl refl
 
 pub returns-in-Map-clause-ok : goal.returns-in-Map-clause-ok
 returns-in-Map-clause-ok g c =
-    let floor = c.args.floor.now in
+    let parts = c.args.parts.now in
     let task = c.args.done.now in
     let port = c.args.port in
     let recs = c.args.recs.now in
@@ -84,31 +84,31 @@ returns-in-Map-clause-ok g c =
     let of_time : c.time-time.result.now ≡ task.time = c.time-time.ensures ∙ ap (λ task. task.time) c.task-task.ensures in
     on_ok_weaker c.send.result
     (λ is.
-    sent_as g.L.Law.answers c.known.ensures.counted.append task port recs floor c.send.new.floor c.known.ensures.in_parts.stamps (Map c.in-Map.field-0) kind refl sent floor.seen floor.outputs
-    (subst (λ (p : ℕ × Timestamp). IsSent p.0 p.1 sent floor.seen floor.outputs floor c.send.new.floor) (λ i. (of_vertex i, of_time i)) is)
+    sent_as g.L.Law.answers c.known.ensures.counted.append task port recs parts c.send.new.parts c.known.ensures.in_parts.stamps (Map c.in-Map.field-0) kind refl sent parts.seen parts.outputs
+    (subst (λ (p : ℕ × Timestamp). IsSent p.0 p.1 sent parts.seen parts.outputs parts c.send.new.parts) (λ i. (of_vertex i, of_time i)) is)
     (sym (c.sent.ensures ∙ (c.known.ensures.a_map_sends task c.in-Map.field-0 port recs nothing_kept kind c.requires.content
     ∙ ap (λ k. flat_map (λ r. (on_arrival g.L.Law.answers k nothing_kept (arrival_of port r)).sent) recs) kind))) refl refl)
     c.send.ensures.ok
 
 pub returns-in-Distinct-clause-ok : goal.returns-in-Distinct-clause-ok
 returns-in-Distinct-clause-ok g c =
-    let floor = c.args.floor.now in
+    let parts = c.args.parts.now in
     let task = c.args.done.now in
     let recs = c.args.recs.now in
     let of_vertex : c.vertex-vertex.result ≡ task.vertex = c.vertex-vertex.ensures ∙ ap (λ task. task.vertex) c.task-task.ensures in
     let of_time : c.time-time.result.now ≡ task.time = c.time-time.ensures ∙ ap (λ task. task.time) c.task-task.ensures in
     on_ok_weaker c.send_new.result
     (λ is.
-    sent_as g.L.Law.answers c.known.ensures.counted.append task c.args.port recs floor c.send_new.new.floor c.known.ensures.in_parts.stamps Distinct
-    (sym (ap (λ task. task.kind) c.task-task.ensures) ∙ (sym c.kind.ensures ∙ c.in-Distinct.is)) refl (fresh floor.seen task.vertex task.time recs)
-    (join stamped_cmp (stamped task.vertex task.time (fresh floor.seen task.vertex task.time recs)) floor.seen) floor.outputs
-    (subst (λ (p : ℕ × Timestamp). IsSent p.0 p.1 (fresh floor.seen p.0 p.1 recs) (join stamped_cmp (stamped p.0 p.1 (fresh floor.seen p.0 p.1 recs)) floor.seen) floor.outputs floor c.send_new.new.floor)
+    sent_as g.L.Law.answers c.known.ensures.counted.append task c.args.port recs parts c.send_new.new.parts c.known.ensures.in_parts.stamps Distinct
+    (sym (ap (λ task. task.kind) c.task-task.ensures) ∙ (sym c.kind.ensures ∙ c.in-Distinct.is)) refl (fresh parts.seen task.vertex task.time recs)
+    (join stamped_cmp (stamped task.vertex task.time (fresh parts.seen task.vertex task.time recs)) parts.seen) parts.outputs
+    (subst (λ (p : ℕ × Timestamp). IsSent p.0 p.1 (fresh parts.seen p.0 p.1 recs) (join stamped_cmp (stamped p.0 p.1 (fresh parts.seen p.0 p.1 recs)) parts.seen) parts.outputs parts c.send_new.new.parts)
     (λ i. (of_vertex i, of_time i)) is) refl refl refl)
     c.send_new.ensures.ok
 
 pub returns-in-Group-clause-ok : goal.returns-in-Group-clause-ok
 returns-in-Group-clause-ok g c =
-    let floor = c.args.floor.now in
+    let parts = c.args.parts.now in
     let task = c.args.done.now in
     let recs = c.args.recs.now in
     let same : task.kind ≡ c.kind.result = sym (ap (λ task. task.kind) c.task-task.ensures) ∙ sym c.kind.ensures in
@@ -117,38 +117,38 @@ returns-in-Group-clause-ok g c =
     let of_time : c.time-time.result.now ≡ task.time = c.time-time.ensures ∙ ap (λ task. task.time) c.task-task.ensures in
     on_ok_weaker c.keep.result
     (λ is.
-    kept_as g.L.Law.answers c.known.ensures.counted.append task c.args.port recs floor c.keep.new.floor c.known.ensures.bags_of_states.notifications
+    kept_as g.L.Law.answers c.known.ensures.counted.append task c.args.port recs parts c.keep.new.parts c.known.ensures.bags_of_states.notifications
     (subst (λ k. ((code : ℕ) × (k ≡ Group code)) ⊎ ((code : ℕ) × (k ≡ Fold code))) (sym same) c.in-Group.is)
-    (shard_there g.L.Law.answers floor task c.args.port recs c.requires.hall c.requires.out c.requires.content c.known.ensures.reached_in_order.tasks c.known.ensures.reached_in_order.numbers)
-    (subst (λ (p : ℕ × ℕ × Timestamp). IsNoted p.0 p.1 p.2 (map (arrival_of c.args.port) recs) floor c.keep.new.floor) (λ i. (of_shard i, of_vertex i, of_time i)) is))
+    (shard_there g.L.Law.answers parts task c.args.port recs c.requires.hall c.requires.out c.requires.content c.known.ensures.reached_in_order.tasks c.known.ensures.reached_in_order.numbers)
+    (subst (λ (p : ℕ × ℕ × Timestamp). IsNoted p.0 p.1 p.2 (map (arrival_of c.args.port) recs) parts c.keep.new.parts) (λ i. (of_shard i, of_vertex i, of_time i)) is))
     c.keep.ensures.ok
 
 pub returns-in-Enter-clause-ok : goal.returns-in-Enter-clause-ok
 returns-in-Enter-clause-ok g c =
-    let floor = c.args.floor.now in
+    let parts = c.args.parts.now in
     let task = c.args.done.now in
     let same : task.kind ≡ c.kind.result = sym (ap (λ task. task.kind) c.task-task.ensures) ∙ sym c.kind.ensures in
     let of_vertex : c.vertex-vertex.result ≡ task.vertex = c.vertex-vertex.ensures ∙ ap (λ task. task.vertex) c.task-task.ensures in
     let of_time : c.time-time.result.now ≡ task.time = c.time-time.ensures ∙ ap (λ task. task.time) c.task-task.ensures in
     on_ok_weaker c.send-in-Enter.result
     (λ is.
-    passed_on g.L.Law.answers c.known.ensures.counted.append task c.args.port c.args.recs.now floor c.send-in-Enter.new.floor c.known.ensures.in_parts.stamps
+    passed_on g.L.Law.answers c.known.ensures.counted.append task c.args.port c.args.recs.now parts c.send-in-Enter.new.parts c.known.ensures.in_parts.stamps
     (subst (λ k. (k ≡ Enter) ⊎ (k ≡ Feedback) ⊎ (k ≡ Leave)) (sym same) c.in-Enter.is)
-    (subst (λ (p : ℕ × Timestamp). IsSent p.0 p.1 c.args.recs.now floor.seen floor.outputs floor c.send-in-Enter.new.floor) (λ i. (of_vertex i, of_time i)) is))
+    (subst (λ (p : ℕ × Timestamp). IsSent p.0 p.1 c.args.recs.now parts.seen parts.outputs parts c.send-in-Enter.new.parts) (λ i. (of_vertex i, of_time i)) is))
     c.send-in-Enter.ensures.ok
 
 pub returns-in-Output-clause-ok : goal.returns-in-Output-clause-ok
 returns-in-Output-clause-ok g c =
-    let floor = c.args.floor.now in
+    let parts = c.args.parts.now in
     let task = c.args.done.now in
     let recs = c.args.recs.now in
     let of_vertex : c.vertex-vertex.result ≡ task.vertex = c.vertex-vertex.ensures ∙ ap (λ task. task.vertex) c.task-task.ensures in
     let of_time : c.time-time.result.now ≡ task.time = c.time-time.ensures ∙ ap (λ task. task.time) c.task-task.ensures in
     on_ok_weaker c.come_out.result
     (λ is.
-    sent_as g.L.Law.answers c.known.ensures.counted.append task c.args.port recs floor c.come_out.new.floor c.known.ensures.in_parts.stamps Output
-    (sym (ap (λ task. task.kind) c.task-task.ensures) ∙ (sym c.kind.ensures ∙ c.in-Output.is)) refl recs floor.seen
-    (join output_at_cmp (map (output_at task.time.epoch task.vertex) recs) floor.outputs)
-    (subst (λ (p : ℕ × Timestamp). IsSent p.0 p.1 recs floor.seen (join output_at_cmp (map (output_at p.1.epoch p.0) recs) floor.outputs) floor c.come_out.new.floor)
+    sent_as g.L.Law.answers c.known.ensures.counted.append task c.args.port recs parts c.come_out.new.parts c.known.ensures.in_parts.stamps Output
+    (sym (ap (λ task. task.kind) c.task-task.ensures) ∙ (sym c.kind.ensures ∙ c.in-Output.is)) refl recs parts.seen
+    (join output_at_cmp (map (output_at task.time.epoch task.vertex) recs) parts.outputs)
+    (subst (λ (p : ℕ × Timestamp). IsSent p.0 p.1 recs parts.seen (join output_at_cmp (map (output_at p.1.epoch p.0) recs) parts.outputs) parts c.come_out.new.parts)
     (λ i. (of_vertex i, of_time i)) is) refl refl refl)
     c.come_out.ensures.ok

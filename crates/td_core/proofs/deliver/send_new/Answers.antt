@@ -14,58 +14,58 @@ use Rattle.td_core.proofs.deliver.send_new.Goals as goal
 
 pub prepare-requires-clause-of_plan : goal.prepare-requires-clause-of_plan
 prepare-requires-clause-of_plan c =
-    let floor = c.args.floor.now in
-    subst (AllByRecursion (λ o. IsOf floor.table.plan (stamp_on_outlet c.args.time.now o))) (sym (c.outlets-outlets.ensures ∙ c.requires.can.sites.outlets c.args.vertex))
-    (outlets_of_plan floor.table.plan c.args.vertex c.args.time.now c.args.time.now c.requires.plain c.requires.can.of_plan)
+    let parts = c.args.parts.now in
+    subst (AllByRecursion (λ o. IsOf parts.table.plan (stamp_on_outlet c.args.time.now o))) (sym (c.outlets-outlets.ensures ∙ c.requires.can.routes.outlets c.args.vertex))
+    (outlets_of_plan parts.table.plan c.args.vertex c.args.time.now c.args.time.now c.requires.plain c.requires.can.of_plan)
 
 pub returns-in_default-clause-err : goal.returns-in_default-clause-err
 returns-in_default-clause-err c =
-    let floor = c.args.floor.now in
-    untouched floor (record floor { table = c.lower_on.new.table; shards = c.prepare.new.shards; seen = c.see.new.self })
-    (λ i. record floor { table = c.lower_on.new.table; shards = c.prepare.new.shards; seen = c.in_default.ensures.err i })
-    (c.lower_on.ensures.plan ∙ c.in_ok-prepare.ensures.plan)
-    (all_off c.counted.ensures.append c.outlets-outlets.result.now c.args.time.now (length c.args.recs.now) floor.table.stamps c.prepare.new.table.stamps c.lower_on.new.table.stamps
-    c.in_ok-prepare.ensures.stamps c.lower_on.ensures.stamps)
+    let parts = c.args.parts.now in
+    untouched parts (record parts { table = c.take_off_on.new.table; shards = c.prepare.new.shards; seen = c.see.new.self })
+    (λ i. record parts { table = c.take_off_on.new.table; shards = c.prepare.new.shards; seen = c.in_default.ensures.err i })
+    (c.take_off_on.ensures.plan ∙ c.in_ok-prepare.ensures.plan)
+    (all_off c.counted.ensures.append c.outlets-outlets.result.now c.args.time.now (length c.args.recs.now) parts.table.stamps c.prepare.new.table.stamps c.take_off_on.new.table.stamps
+    c.in_ok-prepare.ensures.stamps c.take_off_on.ensures.stamps)
     c.in_ok-prepare.ensures.shards
 
 pub overflow_sub-surplus : goal.overflow_sub-surplus
 overflow_sub-surplus c =
-    let less = fewer c.args.floor.now.seen c.args.vertex c.args.time.now c.args.recs.now in
-    let many : c.len.result ≡ length (fresh c.args.floor.now.seen c.args.vertex c.args.time.now c.args.recs.now) = c.len.ensures ∙ (c.in-Ok.new.ok.0 ∙ ap length c.in-Ok.ensures.answer) in
+    let less = fewer c.args.parts.now.seen c.args.vertex c.args.time.now c.args.recs.now in
+    let many : c.len.result ≡ length (fresh c.args.parts.now.seen c.args.vertex c.args.time.now c.args.recs.now) = c.len.ensures ∙ (c.in-Ok.new.ok.0 ∙ ap length c.in-Ok.ensures.answer) in
     omega (arith, less, many)
 
-pub lower_on-requires-2 : goal.lower_on-requires-2
-lower_on-requires-2 c =
-    enough_on c.counted.ensures.append c.outlets-outlets.result.now c.args.time.now (length c.args.recs.now) (length c.args.recs.now - c.len.result) c.args.floor.now.table.stamps c.prepare.new.table.stamps
+pub take_off_on-requires-2 : goal.take_off_on-requires-2
+take_off_on-requires-2 c =
+    enough_on c.counted.ensures.append c.outlets-outlets.result.now c.args.time.now (length c.args.recs.now) (length c.args.recs.now - c.len.result) c.args.parts.now.table.stamps c.prepare.new.table.stamps
     (omega arith) c.in_ok-prepare.ensures.stamps
 
 pub post-requires-clause-room : goal.post-requires-clause-room
 post-requires-clause-room c =
     subst (λ new. HaveRoom new (length c.outlets-outlets.result.now) c.prepare.new.shards.items) (sym (c.as_slice.ensures.value ∙ c.in-Ok.ensures.answer))
-    (room_for_new c.args.floor.now.seen c.args.vertex c.args.time.now c.args.recs.now (length c.outlets-outlets.result.now) c.prepare.new.shards.items c.in_ok-prepare.ensures.room)
+    (room_for_new c.args.parts.now.seen c.args.vertex c.args.time.now c.args.recs.now (length c.outlets-outlets.result.now) c.prepare.new.shards.items c.in_ok-prepare.ensures.room)
 
 pub returns-clause-ok : goal.returns-clause-ok
 returns-clause-ok c =
-    let floor = c.args.floor.now in
+    let parts = c.args.parts.now in
     let v = c.args.vertex in
     let t = c.args.time.now in
     let outs = c.outlets-outlets.result.now in
-    let less = fewer floor.seen v t c.args.recs.now in
-    let many : c.len.result ≡ length (fresh floor.seen v t c.args.recs.now) = c.len.ensures ∙ (c.in-Ok.new.ok.0 ∙ ap length c.in-Ok.ensures.answer) in
-    let stamps = surplus_off c.counted.ensures.append outs t (length c.args.recs.now) c.len.result floor.table.stamps c.prepare.new.table.stamps c.lower_on-2.new.table.stamps
-    (omega (arith, less, many)) c.in_ok-prepare.ensures.stamps c.lower_on-2.ensures.stamps in
-    sent_then floor (record floor { table = c.lower_on-2.new.table; shards = c.post.new.shards; seen = c.see.new.self }) v t t c.requires.plain outs
-    (c.outlets-outlets.ensures ∙ c.requires.can.sites.outlets v) (fresh floor.seen v t c.args.recs.now) (join stamped_cmp (stamped v t (fresh floor.seen v t c.args.recs.now)) floor.seen) floor.outputs
+    let less = fewer parts.seen v t c.args.recs.now in
+    let many : c.len.result ≡ length (fresh parts.seen v t c.args.recs.now) = c.len.ensures ∙ (c.in-Ok.new.ok.0 ∙ ap length c.in-Ok.ensures.answer) in
+    let stamps = surplus_off c.counted.ensures.append outs t (length c.args.recs.now) c.len.result parts.table.stamps c.prepare.new.table.stamps c.take_off_on-2.new.table.stamps
+    (omega (arith, less, many)) c.in_ok-prepare.ensures.stamps c.take_off_on-2.ensures.stamps in
+    sent_then parts (record parts { table = c.take_off_on-2.new.table; shards = c.post.new.shards; seen = c.see.new.self }) v t t c.requires.plain outs
+    (c.outlets-outlets.ensures ∙ c.requires.can.routes.outlets v) (fresh parts.seen v t c.args.recs.now) (join stamped_cmp (stamped v t (fresh parts.seen v t c.args.recs.now)) parts.seen) parts.outputs
     c.prepare.new.shards.items
-    (λ i. record floor {
-      table = c.lower_on-2.new.table;
+    (λ i. record parts {
+      table = c.take_off_on-2.new.table;
       shards = c.post.new.shards;
       seen = c.in-Ok.ensures.ok i;
     })
-    (c.lower_on-2.ensures.plan ∙ c.in_ok-prepare.ensures.plan)
-    (λ p. stamps p ∙ ap (λ n. occurrences p (stamps_on outs t n ++ floor.table.stamps)) many)
+    (c.take_off_on-2.ensures.plan ∙ c.in_ok-prepare.ensures.plan)
+    (λ p. stamps p ∙ ap (λ n. occurrences p (stamps_on outs t n ++ parts.table.stamps)) many)
     c.in_ok-prepare.ensures.shards
     (subst (λ new. IsPosted (on_each outs t new) c.prepare.new.shards.items c.post.new.shards.items) (c.as_slice.ensures.value ∙ c.in-Ok.ensures.answer) c.post.ensures.messages)
 
 pub post-requires-clause-apart : goal.post-requires-clause-apart
-post-requires-clause-apart c = subst AreApart (sym c.outlets-outlets.ensures) (c.requires.can.sites.apart c.args.vertex)
+post-requires-clause-apart c = subst AreApart (sym c.outlets-outlets.ensures) (c.requires.can.routes.apart c.args.vertex)

@@ -1,6 +1,6 @@
 use Rattle.std.proofs.Common.{◌≡◌, ◌-◌, Some, length, subst}
 use Rattle.std.specs.List.{slice_get}
-use Rattle.td_core.proofs.SiteLists.{innermost_bound}
+use Rattle.td_core.proofs.RouteLists.{innermost_bound}
 use Rattle.td_core.proofs.hall.bound_of.Goals as goal
 
 pub returns-in-Some : goal.returns-in-Some

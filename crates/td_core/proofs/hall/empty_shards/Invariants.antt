@@ -1,5 +1,5 @@
 use Rattle.std.proofs.Common.{◌≡◌, ◌+◌, ◌-◌, ◌≤◌, replicate, vec_len, vec_capacity}
-use Rattle.td_core.specs.Floor.{empty_shard}
+use Rattle.td_core.specs.Parts.{empty_shard}
 use Rattle.td_core.proofs.hall.empty_shards.Given as goal
 
 abbrev pub invariant-loop-shard : goal.invariant-loop-shard

@@ -1,7 +1,7 @@
 use Rattle.std.proofs.Common.{◌≡◌, ◌+◌, ◌++◌, [], ◌∷◌, Some, length, get_or, take, sym, ap, ◌∙◌, subst, arith}
 use Rattle.std.specs.List.{slice_get}
 use Rattle.std.proofs.lemmas.Option.{slice_get-get_or}
-use Rattle.td_core.proofs.SiteLists.{few_numbers, outlets_among, next_out, next_other}
+use Rattle.td_core.proofs.RouteLists.{few_numbers, outlets_among, next_out, next_other}
 use Rattle.td_core.proofs.hall.outlets_of.Goals.{then-edge-vertex+in_ok-push, else-edge-vertex}
 use Rattle.td_core.proofs.hall.outlets_of.Goals as goal
 

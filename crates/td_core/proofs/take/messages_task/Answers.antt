@@ -11,7 +11,7 @@ returns-clause-ok c =
     record {
       shard_is = ap (λ x. x.shard) made;
       number = ap (λ x. x.number) made;
-      kind = ap (λ x. x.kind) made ∙ (c.kind-kind.ensures ∙ (c.requires.sites.kind t.vertex ∙ sym (ap (λ x. kind_of c.args.floor.now.table.plan x.vertex) made)));
+      kind = ap (λ x. x.kind) made ∙ (c.kind-kind.ensures ∙ (c.requires.routes.kind t.vertex ∙ sym (ap (λ x. kind_of c.args.parts.now.table.plan x.vertex) made)));
       content = (
         t.port,
         t.recs.items,

@@ -20,13 +20,13 @@ returns-clause-ok c =
     record {
       shard_is = ap (λ x. x.shard) made;
       number = ap (λ x. x.number) made;
-      kind = ap (λ x. x.kind) made ∙ (c.kind-kind.ensures ∙ (c.requires.sites.kind n.vertex ∙ sym (ap (λ x. kind_of c.args.floor.now.table.plan x.vertex) made)));
+      kind = ap (λ x. x.kind) made ∙ (c.kind-kind.ensures ∙ (c.requires.routes.kind n.vertex ∙ sym (ap (λ x. kind_of c.args.parts.now.table.plan x.vertex) made)));
       content = (
         ap (λ x. x.vertex) made,
         ap (λ x. x.time) made ∙ c.copy.ensures,
         λ items here.
             ap (λ x. x.content) made ∙ (ap content_of c.in_ok-work.ensures.ok ∙ ap notification (c.set_states.ensures
-            ∙ ((λ i. map (λ k. with_state k (state_of (with_left c.args.floor.now.states (filter (λ one. nat_le one.epoch (before i)) c.args.floor.now.versions)) n.vertex k.key)) ((c.in_ok-items.ensures.ok ∙ ap (λ l. map without_state (groups l)) (c.items_of.ensures items here)) i))
+            ∙ ((λ i. map (λ k. with_state k (state_of (with_left c.args.parts.now.states (filter (λ one. nat_le one.epoch (before i)) c.args.parts.now.versions)) n.vertex k.key)) ((c.in_ok-items.ensures.ok ∙ ap (λ l. map without_state (groups l)) (c.items_of.ensures items here)) i))
             ∙ map_twice without_state _ (groups items)))),
       );
     }

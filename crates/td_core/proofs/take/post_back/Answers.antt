@@ -2,7 +2,7 @@ use Rattle.std.proofs.Common.{◌≡◌, ◌++◌, ap, sym, ◌∙◌, append-ni
 use Rattle.td_machine.specs.Steps.{coming}
 use Rattle.td_shard.specs.declared.shard.Shard.{Shard}
 use Rattle.td_task.specs.Contents.{content_of}
-use Rattle.td_core.specs.Floor.{taken_up}
+use Rattle.td_core.specs.Parts.{taken_up}
 use Rattle.td_core.specs.Posted.{mails}
 use Rattle.td_core.specs.Taking.{changed_at}
 use Rattle.td_core.proofs.TakeLists.{map_same, map_changed, unchanged}

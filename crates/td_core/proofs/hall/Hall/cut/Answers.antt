@@ -4,7 +4,7 @@ use Rattle.td_machine.specs.Steps.{cut_by}
 use Rattle.td_machine.specs.Steps.Event.{cut}
 use Rattle.td_machine.specs.Steps.Refusal.{not_passed}
 use Rattle.td_core.specs.declared.error.HallError.TheVariants.{Memory}
-use Rattle.td_core.specs.Floor.{state_of}
+use Rattle.td_core.specs.Parts.{state_of}
 use Rattle.td_core.proofs.CutSteps.{cut_hall, cuts, at_err}
 use Rattle.td_core.proofs.Meant.{cut_meant, last_passed}
 use Rattle.td_core.proofs.hall.Hall.cut.Goals as goal
@@ -12,26 +12,26 @@ use Rattle.td_core.proofs.hall.Hall.cut.Goals as goal
 pub overflow_sub-last : goal.overflow_sub-last
 overflow_sub-last g c = let more = (c.reached_in_order.ensures.numbers _ c.self.invariant.reached).base in omega (arith, more)
 
-pub cut_floor-requires : goal.cut_floor-requires
-cut_floor-requires g c = let more = (c.reached_in_order.ensures.numbers _ c.self.invariant.reached).base in omega (arith, more)
+pub cut_parts-requires : goal.cut_parts-requires
+cut_parts-requires g c = let more = (c.reached_in_order.ensures.numbers _ c.self.invariant.reached).base in omega (arith, more)
 
 pub invariant_of-self : goal.invariant_of-self
 invariant_of-self g c =
-    let floor = c.self.inside.floor in
-    let none : unpassed (state_of floor) ≡ None = ap unpassed c.self.view_is ∙ (sym c.unpassed.ensures ∙ c.in-None.is) in
-    cut_hall floor c.cut_floor.new.floor (floor.next - 1) g.L.Law.answers c.reached.ensures.step c.self.invariant cut (cuts (state_of floor) none) c.cut_floor.result
-    c.cut_floor.ensures.ok c.cut_floor.ensures.err
+    let parts = c.self.inside.parts in
+    let none : unpassed (state_of parts) ≡ None = ap unpassed c.self.view_is ∙ (sym c.unpassed.ensures ∙ c.in-None.is) in
+    cut_hall parts c.cut_parts.new.parts (parts.next - 1) g.L.Law.answers c.reached.ensures.step c.self.invariant cut (cuts (state_of parts) none) c.cut_parts.result
+    c.cut_parts.ensures.ok c.cut_parts.ensures.err
 
 pub returns-in-None-clause-meaning : goal.returns-in-None-clause-meaning
 returns-in-None-clause-meaning g c =
-    let floor = c.self.inside.floor in
+    let parts = c.self.inside.parts in
     let answers = g.L.Law.answers in
     let reached = c.self.invariant.reached in
     let sound = c.reached.ensures.sound _ reached in
     let more = (c.reached_in_order.ensures.numbers _ reached).base in
-    let none : unpassed (state_of floor) ≡ None = ap unpassed c.self.view_is ∙ (sym c.unpassed.ensures ∙ c.in-None.is) in
-    let passed : has_passed (state_of floor) (floor.next - 1) ≡ true = last_passed answers (state_of floor) sound (c.base_has_passed.ensures _ reached) more none in
-    cut_meant answers floor sound (floor.next - 1) (omega (arith, more)) (omega (arith, more)) passed c.cut_floor.result c.cut_floor.ensures.epoch c.cut_floor.ensures.states
+    let none : unpassed (state_of parts) ≡ None = ap unpassed c.self.view_is ∙ (sym c.unpassed.ensures ∙ c.in-None.is) in
+    let passed : has_passed (state_of parts) (parts.next - 1) ≡ true = last_passed answers (state_of parts) sound (c.base_has_passed.ensures _ reached) more none in
+    cut_meant answers parts sound (parts.next - 1) (omega (arith, more)) (omega (arith, more)) passed c.cut_parts.result c.cut_parts.ensures.epoch c.cut_parts.ensures.states
     c.args.self.now c.self.view_is
 
 pub returns-in-Some-clause-refused : goal.returns-in-Some-clause-refused
@@ -39,4 +39,4 @@ returns-in-Some-clause-refused g c =
     inr (not_passed c.in-Some.epoch, refl, ap (λ o. cut_by c.args.self.now o (c.args.self.now.next - 1)) (sym c.unpassed.ensures ∙ c.in-Some.is))
 
 pub returns-in-None-clause-memory_last : goal.returns-in-None-clause-memory_last
-returns-in-None-clause-memory_last g c = at_err (λ e. e ≡ Memory) (sym c.unpassed.ensures ∙ c.in-None.is) c.cut_floor.result
+returns-in-None-clause-memory_last g c = at_err (λ e. e ≡ Memory) (sym c.unpassed.ensures ∙ c.in-None.is) c.cut_parts.result

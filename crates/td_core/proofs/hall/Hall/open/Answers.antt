@@ -26,14 +26,14 @@ invariant_of-result g c = opened_hall c.args.plan.now c.args.base c.args.first c
   collected = refl;
   taken = refl;
   given = refl;
-  sites = c.in_ok-sites.ensures;
+  routes = c.in_ok-routes.ensures;
 }) g.L.Law.answers
     (c.reached.ensures.opened c.args.plan.now c.args.base c.args.first c.args.workers c.vertices.ensures.lawful c.list.ensures.ordered c.requires.first c.requires.some) c.requires.few c.requires.numbers
 
 pub returns-clause-opened : goal.returns-clause-opened
 returns-clause-opened g c = opened_state c.args.plan.now c.args.base c.args.first c.args.workers (record {
   table = c.in_ok-table.table;
-  sites = c.in_ok-sites.sites;
+  routes = c.in_ok-routes.routes;
   inputs = c.in_ok-inputs.inputs;
   base = c.args.first - 1;
   states = c.args.base;
@@ -66,5 +66,5 @@ returns-clause-opened g c = opened_state c.args.plan.now c.args.base c.args.firs
   collected = refl;
   taken = refl;
   given = refl;
-  sites = c.in_ok-sites.ensures;
+  routes = c.in_ok-routes.ensures;
 })

@@ -1,16 +1,16 @@
 use Rattle.std.proofs.Common.{◌≡◌, ap, sym, ◌∙◌, subst, true, false, unwrap_or}
 use Rattle.td_machine.specs.Active.{has_passed}
 use Rattle.td_core.specs.declared.error.HallError.TheVariants.{NotPassed}
-use Rattle.td_core.specs.Floor.{state_of}
+use Rattle.td_core.specs.Parts.{state_of}
 use Rattle.td_core.proofs.Reading.{read_meant}
 use Rattle.td_core.proofs.hall.Hall.states_at.Goals as goal
 
 pub returns-then-passed-clause-meaning : goal.returns-then-passed-clause-meaning
 returns-then-passed-clause-meaning g c =
-    let floor = c.self.inside.floor in
+    let parts = c.self.inside.parts in
     let e = c.args.epoch in
-    let passed : has_passed (state_of floor) e ≡ true = sym (c.in_any_order.ensures.passed _ _ e c.self.invariant.counted) ∙ (sym c.passed.ensures ∙ c.if-passed.true) in
-    c.new.ensures ∙ read_meant g.L.Law.answers floor (c.reached.ensures.sound _ c.self.invariant.reached) c.args.self.now c.self.view_is e c.requires.after c.requires.released passed
+    let passed : has_passed (state_of parts) e ≡ true = sym (c.in_any_order.ensures.passed _ _ e c.self.invariant.counted) ∙ (sym c.passed.ensures ∙ c.if-passed.true) in
+    c.new.ensures ∙ read_meant g.L.Law.answers parts (c.reached.ensures.sound _ c.self.invariant.reached) c.args.self.now c.self.view_is e c.requires.after c.requires.released passed
 
 pub returns-then-passed-clause-passed : goal.returns-then-passed-clause-passed
 returns-then-passed-clause-passed g c =

@@ -1,5 +1,5 @@
 use Rattle.std.proofs.Common.{refl, sym, ap}
-use Rattle.td_orders.specs.declared.asking.Asked.TheVariants.{Epochs}
+use Rattle.td_orders.specs.declared.source.Asked.TheVariants.{Epochs}
 use Rattle.td_feed.specs.Carried.{new_to}
 use Rattle.td_feed.proofs.Stepping.{does_for, does_then, does_handed, does_step}
 use Rattle.td_feed.proofs.under_way.Feeding.obey.Goals as goal

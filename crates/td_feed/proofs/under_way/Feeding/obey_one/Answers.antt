@@ -4,7 +4,7 @@ use Rattle.td_keeper.specs.Keeping.{Keeping}
 use Rattle.td_orders.specs.declared.order.Order.TheVariants as order
 use Rattle.td_orders.specs.Noted.{note_line}
 use Rattle.td_orders.specs.Noted.Aside.{to_say, to_answer, to_copy}
-use Rattle.td_orders.specs.declared.asking.Asked.TheVariants.{One}
+use Rattle.td_orders.specs.declared.source.Asked.TheVariants.{One}
 use Rattle.td_feed.specs.Session.{FeedsCopying}
 use Rattle.td_feed.proofs.Causes.{of_noted}
 use Rattle.td_feed.proofs.Held.{by, base_itself, keeps_same}

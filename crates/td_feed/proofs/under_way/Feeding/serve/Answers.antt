@@ -7,7 +7,7 @@ use Rattle.td_store.specs.declared.standing.error.KeeperError.TheVariants.{Devic
 use Rattle.td_orders.specs.Noted.{Aside, ComeOf, copied_in}
 use Rattle.td_feed.specs.Copied.{Copied, MakesCopies}
 use Rattle.td_orders.specs.Orders.{submissions, notes_in}
-use Rattle.td_orders.specs.declared.asking.Room.{Room}
+use Rattle.td_orders.specs.declared.source.Room.{Room}
 use Rattle.td_orders.specs.Scripts.{Script, Asks, asked_for, notes_for, is_of_reader}
 use Rattle.td_store.specs.standing.Standing.{last_epoch, last_request}
 use Rattle.td_keeper.specs.Keeping.{Keeping}

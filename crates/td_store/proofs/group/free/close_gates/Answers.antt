@@ -16,7 +16,7 @@ returns-in_err-wrote-clause-crash_safe g c lawful durable =
     let laws = g.met.D.Disk in
     let mid = c.loop-k.device in
     let still = c.loop-k.invariant.2.0 lawful in
-    one_more c.cells.ensures.apart c.args.journal.now c.args.first c.loop-k.k c.args.count c.cell_of.result (view c.args.device.now).state (view mid).state (view c.close_gate.new.device).state
+    one_more c.cells.ensures.apart c.args.journal.now c.args.first c.loop-k.k c.args.count c.cell_of.result (view c.args.device.now).state (view mid).state (view c.close_if_open.new.device).state
     (record { counts_now = λ t f. laws.counts_now mid t f still; only_now = λ f. laws.only_now mid f still }) (laws.reads_image mid still)
     c.cell_of.ensures.region c.loop-k-test.true c.requires.few durable (c.loop-k.invariant.3 lawful durable) (c.in_err-wrote.ensures.crash_safe still)
 
@@ -25,7 +25,7 @@ loop-k-preserved g c =
     let view = g.D.Disk.view in
     let laws = g.met.D.Disk in
     let mid = c.loop-k.device in
-    let new = c.close_gate.new.device in
+    let new = c.close_if_open.new.device in
     let j = c.args.journal.now in
     let k = c.loop-k.k in
     let before = c.loop-k.invariant in
@@ -50,7 +50,7 @@ loop-k-preserved g c =
           let quiet = before.6 lawful shut in
           let none : opened (cell_of j (c.args.first + k)) (view mid).state.bytes ≡ None = ap (opened (cell_of j (c.args.first + k))) ((before.5 quiet).same lawful) ∙ shut k c.loop-k-test.true in
           or_from c.loop-k.wrote c.in_ok-wrote.field-0 quiet
-          (wrote.needless (before.2.0 lawful) (subst (λ (r : Region). opened r (view mid).state.bytes ≡ None) (sym c.cell_of.ensures.region) none)),
+          (wrote.needless (before.2.0 lawful, subst (λ (r : Region). opened r (view mid).state.bytes ≡ None) (sym c.cell_of.ensures.region) none)),
     )
 
 pub returns-in_err-wrote-clause-idle : goal.returns-in_err-wrote-clause-idle
@@ -62,8 +62,8 @@ returns-in_err-wrote-clause-idle g c lawful shut =
     let read = before.5 (before.6 lawful shut) in
     let cell = cell_of c.args.journal.now (c.args.first + c.loop-k.k) in
     let none : opened cell (view mid).state.bytes ≡ None = ap (opened cell) (read.same lawful) ∙ shut c.loop-k.k c.loop-k-test.true in
-    c.reads_in_turn.ensures.unchanged c.args.device.now mid c.close_gate.new.device still (read.crash_safe lawful)
-    (c.in_err-wrote.ensures.idle still (subst (λ (r : Region). opened r (view mid).state.bytes ≡ None) (sym c.cell_of.ensures.region) none))
+    c.reads_in_turn.ensures.unchanged c.args.device.now mid c.close_if_open.new.device still (read.crash_safe lawful)
+    ((c.in_err-wrote.ensures.idle (still, subst (λ (r : Region). opened r (view mid).state.bytes ≡ None) (sym c.cell_of.ensures.region) none)).crash_safe still)
 
 pub returns-clause-crash_safe : goal.returns-clause-crash_safe
 returns-clause-crash_safe g c lawful durable =
