@@ -193,7 +193,7 @@ module _ (answers : Answers) (numbers : (S : HallState) → IsReached answers S 
   pub taken_few : (parts : Parts) (delivered : Drained) → IsIdle answers parts delivered → parts.taken ≤ ends
   taken_few parts delivered idle = (numbers (state_of parts) idle.hall.reached).taken
 
--- THE WHOLE of a drain, from a parts on which nothing is counted yet
+-- THE WHOLE of a drain, from parts of which nothing is counted yet
 abbrev pub no_delivery : Drained
 no_delivery = record { messages = 0; notes = 0 }
 

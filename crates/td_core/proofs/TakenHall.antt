@@ -227,7 +227,7 @@ module _ (answers : Answers) (parts : Parts) (inv : IsHall answers parts) (bags 
       routes = inv.routes;
     })
 
-  -- A FLOOR with no more than room is the same hall
+  -- PARTS with no more than room are the same hall
   pub same_state : (new : Parts) → IsSame parts new → state_of new ≡ S
   same_state new is = ap state_of is.fields ∙ (λ i. record S { messages = bag_of message_cmp (in_mailboxes shards ++ with_tasks (is.out i)); out = is.out i })
 

@@ -9,7 +9,7 @@ use thiserror::Error;
 
 /// Why a call of a hall was refused.
 ///
-/// `Memory` comes of arithmetic alone in nine places: `Bag::add`, three numbers of `Mailbox::reserve`, `posting::count`,
+/// `Memory` comes of arithmetic alone in nine places: `Bag::add`, three numbers of `Mailbox::reserve`, `post::count`,
 /// `add_one`, `Answers::room`, `Task::copy`, and td_progress' `Held::come`. Each needs 2^57 things at least, in memory, in one
 /// bag, or posted to one mailbox that was never empty in between. How much memory there is no contract knows.
 #[derive(Clone, Copy, Debug, PartialEq, Eq, Error)]

@@ -1,4 +1,4 @@
-//! What the calls of a hall know for the prover alone. A contract of this crate speaks of states that plays reach, and a body of the parts of a parts: what
+//! What the calls of a hall know for the prover alone. A contract of this crate speaks of states that plays reach, and a body of a hall's parts: what
 //! leads from one to the other are laws of the crates below. One call brings them all, so that code has one line that does nothing, and each such
 //! function has the same.
 ghost use Rattle.td_core.specs.Known.{Known};
