@@ -14,7 +14,7 @@ ghost use Rattle.td_batch.specs.Steps.Emitted.{input_of};
 ghost use Rattle.td_batch.specs.Changes.{changes_by};
 ghost use Rattle.td_batch.specs.Steps.Tree.{nodes_of, reads, AreAlike};
 
-use crate::arriving::{arriving, only_bag};
+use crate::arrivals::{arriving, only_bag};
 use crate::changes::Change;
 use crate::emitted::{Before, Emitted};
 use crate::kept::KeptStates;

@@ -5,7 +5,7 @@ ghost use Rattle.td_stamp.specs.Bag.{IsBag};
 ghost use Rattle.td_stamp.specs.Groups.{groups};
 ghost use Rattle.td_batch.specs.Steps.Sent.{with_group};
 
-use crate::arriving::Arrived;
+use crate::arrivals::Arrived;
 use std::marker::Model;
 use td_stamp::{Arrival, Item, StampError as BatchError, laws};
 

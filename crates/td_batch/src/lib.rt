@@ -10,7 +10,7 @@
 //! For example `0 input`, `1 distinct 0`, `2 output 1` means each record of an epoch, once.
 #![tactic(auto)]
 
-mod arriving;
+mod arrivals;
 mod built;
 mod changes;
 mod emission;

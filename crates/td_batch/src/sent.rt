@@ -10,7 +10,7 @@ ghost use Rattle.td_calls.specs.Callbacks.{sends, nothing_kept};
 ghost use Rattle.td_batch.specs.Changes.{changes_by};
 ghost use Rattle.td_batch.specs.Steps.Sent.{is_repeat};
 
-use crate::arriving::Arrived;
+use crate::arrivals::Arrived;
 use crate::changes::Change;
 use crate::emitted::Emitted;
 use crate::groups::Groups;

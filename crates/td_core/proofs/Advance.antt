@@ -1,7 +1,7 @@
 -- A task is taken of a shard, run and given; or it is put back, and the state is as it was before.
-use Rattle.std.proofs.Common.{◌≡◌, ℕ, zero, suc, ◌==◌, ◌≤◌, ◌<◌, Bool, true, false, List, [], ◌∷◌, ◌++◌, map, length, get_or, set, Option, Some, None, option_map, Vec, Global, Contains, HoldsAt, refl, ap, sym, ◌∙◌, subst, arith, inl, inr}
-use Rattle.std.specs.List.{slice_get, list_any}
-use Rattle.td_stamp.specs.Bag.{bag_of}
+use Rattle.std.proofs.Common.{◌≡◌, ℕ, zero, suc, ◌==◌, ◌≤◌, ◌<◌, Bool, true, false, List, [], ◌∷◌, ◌++◌, map, flat_map, length, get_or, set, Option, Some, None, option_map, Vec, Global, Contains, HoldsAt, refl, ap, sym, ◌∙◌, subst, arith, inl, inr}
+use Rattle.std.specs.List.{slice_get, list_any, enumerate_from}
+use Rattle.td_stamp.specs.Bag.{bag_of, set_of}
 use Rattle.td_plan.specs.declared.vertex.Kind.{Kind}
 use Rattle.td_plan.specs.Lines.{Line}
 use Rattle.td_plan.specs.Blocks.{PlacedVertex, vertices}
@@ -10,7 +10,7 @@ use Rattle.td_calls.specs.Fits.{lacking_code, first_lack}
 use Rattle.td_calls.specs.declared.error.CallsError.{CallsError}
 use Rattle.td_calls.specs.declared.error.CallsError.TheVariants.{NoCall}
 use Rattle.td_calls.specs.Stored.{Codes}
-use Rattle.td_machine.specs.State.{HallState, Task, message_cmp}
+use Rattle.td_machine.specs.State.{HallState, Task, message_cmp, notification_cmp}
 use Rattle.td_machine.specs.Active.{kind_or, kind_of}
 use Rattle.td_machine.specs.Steps.{Answer, Refusal, Takes, Gives, effect, is_given}
 use Rattle.td_machine.specs.Steps.Answer.{has_taken, has_given, refused}
@@ -25,7 +25,7 @@ use Rattle.td_task.specs.declared.error.TaskError.TheVariants as task_errors
 use Rattle.td_core.specs.declared.hall.Parts.{Parts}
 use Rattle.td_core.specs.declared.drain.Drained.{Drained}
 use Rattle.td_core.specs.declared.error.HallError.{HallError}
-use Rattle.td_core.specs.Parts.{state_of, in_mailboxes, with_tasks, IsHall}
+use Rattle.td_core.specs.Parts.{state_of, in_mailboxes, with_tasks, waiting_in, asked_in, IsHall}
 use Rattle.td_core.specs.Given.{IsUntouched}
 use Rattle.td_core.specs.Posted.{HasNoLess, IsRoomier, mails, waits}
 use Rattle.td_core.specs.Refusals.{error_of}
@@ -74,7 +74,13 @@ module _ (parts : Parts) (shards : Vec Shard Global) (same : IsRoomier parts.sha
 
 -- nor where a take was refused
 pub same_state : (old new : Parts) → IsSame old new → state_of new ≡ state_of old
-same_state old new same = ap state_of same.fields ∙ (λ i. record (state_of old) { messages = bag_of message_cmp (in_mailboxes old.shards.items ++ with_tasks (same.out i)); out = same.out i })
+same_state old new same = ap state_of same.fields ∙ (λ i. record (state_of old) {
+  workers = length (same.shards i);
+  messages = bag_of message_cmp (in_mailboxes (same.shards i) ++ with_tasks (same.out i));
+  buffered = bag_of message_cmp (flat_map waiting_in (same.shards i));
+  asked = set_of notification_cmp (flat_map asked_in (enumerate_from 0 (same.shards i)));
+  out = same.out i;
+})
 
 -- ROOM stays while a task is taken and nothing has less
 room_taken : (a b : List Shard) (i : ℕ) → i < length a → map room_of b ≡ map room_of a → HoldsAt HasRoomBack a i → HoldsAt HasRoomBack b i

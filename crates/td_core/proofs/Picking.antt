@@ -1,12 +1,14 @@
 -- The candidate that a pick names.
-use Rattle.std.proofs.Common.{◌≡◌, inl, inr, ℕ, ◌+◌, ◌-◌, ◌<◌, List, [], ◌∷◌, ◌++◌, length, Some, None, refl, sym, ap, ◌∙◌, subst, arith}
+use Rattle.std.proofs.Common.{◌≡◌, inl, inr, ℕ, ◌+◌, ◌-◌, ◌<◌, List, [], ◌∷◌, ◌++◌, length, get_or, Vec, Global, Some, None, refl, sym, ap, ◌∙◌, subst, arith}
 use Rattle.std.proofs.lemmas.Nat.{mod_below}
 use Rattle.td_progress.specs.Bag.{Active}
 use Rattle.td_shard.specs.declared.waiting.Noted.{Noted}
 use Rattle.td_shard.specs.declared.shard.Shard.{Shard}
 use Rattle.td_core.specs.declared.take.Candidate.{Candidate}
 use Rattle.td_core.specs.declared.take.Candidate.TheVariants as candidates
-use Rattle.td_core.specs.Taking.{IsReady, AreReady, IsReadyAt, IsPlaceOf, IsPicked, IsThere, asked_at}
+use Rattle.td_core.specs.declared.hall.Parts.{Parts}
+use Rattle.td_machine.specs.State.{Task}
+use Rattle.td_core.specs.Taking.{IsReady, AreReady, IsReadyAt, IsPlaceOf, IsPicked, IsThere, IsFor, IsTaskFor, asked_at}
 
 module _ (active : Active) where
   -- there is one such list
@@ -48,3 +50,21 @@ module _ (active : Active) where
   pub is_there : (s : Shard) (pick : ℕ) (c : Candidate) → IsPicked active s pick (Some c) → IsThere s c
   is_there s pick (candidates.Message place) h = h.0
   is_there s pick (candidates.Notification n) h = tt
+
+-- A TASK FOR A CANDIDATE, while what waits is put in order: the states that it is given are of the parts before
+module _ (parts : Parts) (shards : Vec Shard Global) where
+  abbrev reordered : Parts
+  reordered = record parts { shards = shards }
+
+  for_same : (s : Shard) (c : Candidate) (task : Task) → IsFor reordered s c task → IsFor parts s c task
+  for_same s (candidates.Message place) task is = is
+  for_same s (candidates.Notification n) task is = is
+
+  pub task_same : (i : ℕ) (d : Shard) (c : Candidate) (task : Task) → shards.items ≡ parts.shards.items
+      → IsTaskFor reordered i (get_or shards.items i d) c task → IsTaskFor parts i (get_or parts.shards.items i d) c task
+  task_same i d c task same is = subst (λ ss. IsTaskFor parts i (get_or ss i d) c task) same (record {
+    shard_is = is.shard_is;
+    number = is.number;
+    kind = is.kind;
+    content = for_same (get_or shards.items i d) c task is.content;
+  })

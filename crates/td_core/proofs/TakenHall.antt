@@ -40,7 +40,7 @@ use Rattle.td_shard.specs.Messages.{IsBeside, task_at, left_at}
 use Rattle.td_core.specs.declared.hall.Parts.{Parts}
 use Rattle.td_core.specs.declared.take.Candidate.{Candidate}
 use Rattle.td_core.specs.declared.take.Candidate.TheVariants as candidates
-use Rattle.td_core.specs.Parts.{state_of, IsHall, IsShard, empty_shard, in_mailboxes, with_tasks, taken_up}
+use Rattle.td_core.specs.Parts.{state_of, IsHall, IsShard, empty_shard, in_mailboxes, with_tasks, taken_up, waiting_in, asked_in}
 use Rattle.td_core.specs.Posted.{mails, waits}
 use Rattle.td_core.specs.Taking.{IsReady, IsPicked, IsTaskFor, IsSame, IsPickTaken, IsPickRefused, IsTakeRefused, IsLastTake, mails_without, changed_at}
 use Rattle.td_core.proofs.CollectSteps.{ReachedByStep}
@@ -229,15 +229,21 @@ module _ (answers : Answers) (parts : Parts) (inv : IsHall answers parts) (bags 
 
   -- PARTS with no more than room are the same hall
   pub same_state : (new : Parts) → IsSame parts new → state_of new ≡ S
-  same_state new is = ap state_of is.fields ∙ (λ i. record S { messages = bag_of message_cmp (in_mailboxes shards ++ with_tasks (is.out i)); out = is.out i })
+  same_state new is = ap state_of is.fields ∙ (λ i. record S {
+    workers = length (is.shards i);
+    messages = bag_of message_cmp (in_mailboxes (is.shards i) ++ with_tasks (is.out i));
+    buffered = bag_of message_cmp (flat_map waiting_in (is.shards i));
+    asked = set_of notification_cmp (flat_map asked_in (enumerate_from 0 (is.shards i)));
+    out = is.out i;
+  })
 
   pub same_hall : (new : Parts) → IsSame parts new → IsHall answers new
   same_hall new is = subst (IsHall answers) (sym is.fields) (record {
     reached = subst (IsReached answers) (sym (same_state new is) ∙ ap state_of is.fields) inv.reached;
     counted = subst (λ T. IsSameBag parts.table.stamps (active T)) (sym (same_state new is) ∙ ap state_of is.fields) inv.counted;
     inputs = inv.inputs;
-    shards = inv.shards;
-    few = inv.few;
+    shards = subst (λ ss. AllByRecursion (IsShard (length ss)) (enumerate_from 0 ss)) (sym is.shards) inv.shards;
+    few = subst (λ ss. length ss ≤ 16) (sym is.shards) inv.few;
     next = inv.next;
     routes = inv.routes;
   })

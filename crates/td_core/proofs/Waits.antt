@@ -9,7 +9,8 @@ use Rattle.std.specs.FinMap.{IsAntisymmetric, nat_cmp-IsAntisymmetric}
 use Rattle.std.proofs.lemmas.List.{map-append}
 use Rattle.td_stamp.specs.declared.values.Arrival.{Arrival}
 use Rattle.td_stamp.specs.ProvedOrders.{both_tie}
-use Rattle.td_stamp.specs.Bag.{join}
+use Rattle.td_stamp.specs.Bag.{bag_insert, bag_of, join}
+use Rattle.td_stamp.specs.Orders.{arrival_cmp}
 use Rattle.td_stamp.specs.BagLaws.{BagLaws}
 use Rattle.td_stamp.specs.Time.{time_cmp}
 use Rattle.td_machine.specs.declared.records.Message.{Message}
@@ -46,15 +47,36 @@ abbrev pub as_messages : Noted → List Arrival → List Message
 as_messages n items = map (waiting n.vertex n.time) items
 
 module _ (apart : IsAntisymmetric time_cmp) (laws : BagLaws message_cmp) (n : Noted) (more : List Arrival) where
+  -- an item that is put in its place
+  one_more : (m : Noted) (a : Arrival) (items : List Arrival) (rest : List Message)
+      → join message_cmp (as_messages m (bag_insert arrival_cmp a items)) rest ≡ join message_cmp (as_messages m (a ∷ items)) rest
+  one_more m a [] rest = refl
+  one_more m a (b ∷ items) rest = by (arrival_cmp a b) (one_more m a items rest)
+    where
+      by : (o : Ordering) → join message_cmp (as_messages m (bag_insert arrival_cmp a items)) rest ≡ join message_cmp (as_messages m (a ∷ items)) rest
+          → join message_cmp (as_messages m (elim o [ Greater ↦ b ∷ bag_insert arrival_cmp a items | _ ↦ a ∷ b ∷ items ])) rest ≡ join message_cmp (as_messages m (a ∷ b ∷ items)) rest
+      by Less later = refl
+      by Equal later = refl
+      by Greater later =
+          ap (join message_cmp (as_messages m (b ∷ []))) later ∙ laws.swaps (as_messages m (b ∷ [])) (as_messages m (a ∷ [])) (join message_cmp (as_messages m items) rest)
+
+  -- the bag of some items
+  in_bag : (m : Noted) (items : List Arrival) (rest : List Message)
+      → join message_cmp (as_messages m (bag_of arrival_cmp items)) rest ≡ join message_cmp (as_messages m items) rest
+  in_bag m [] rest = refl
+  in_bag m (a ∷ items) rest =
+      one_more m a (bag_of arrival_cmp items) rest ∙ ap (join message_cmp (as_messages m (a ∷ []))) (in_bag m items rest)
+
   -- two parts of an entry
   two_parts : (m : Noted) (items : List Arrival) (es : AskedList) (rest : List Message)
-      → join message_cmp (as_messages m (items ++ more) ++ waiting_all es) rest ≡ join message_cmp (as_messages m more) (join message_cmp (as_messages m items ++ waiting_all es) rest)
+      → join message_cmp (as_messages m (bag_of arrival_cmp (items ++ more)) ++ waiting_all es) rest ≡ join message_cmp (as_messages m more) (join message_cmp (as_messages m items ++ waiting_all es) rest)
   two_parts m items es rest =
-      laws.append (as_messages m (items ++ more)) (waiting_all es) rest
+      laws.append (as_messages m (bag_of arrival_cmp (items ++ more))) (waiting_all es) rest
+      ∙ (in_bag m (items ++ more) (join message_cmp (waiting_all es) rest)
       ∙ (ap (λ l. join message_cmp l (join message_cmp (waiting_all es) rest)) (map-append (waiting m.vertex m.time) items more)
       ∙ (laws.append (as_messages m items) (as_messages m more) (join message_cmp (waiting_all es) rest)
       ∙ (laws.swaps (as_messages m items) (as_messages m more) (join message_cmp (waiting_all es) rest)
-      ∙ ap (join message_cmp (as_messages m more)) (sym (laws.append (as_messages m items) (waiting_all es) rest)))))
+      ∙ ap (join message_cmp (as_messages m more)) (sym (laws.append (as_messages m items) (waiting_all es) rest))))))
 
   -- or in a later entry
   later_part : (first : List Message) (es fs : AskedList) (rest : List Message)
@@ -67,14 +89,14 @@ module _ (apart : IsAntisymmetric time_cmp) (laws : BagLaws message_cmp) (n : No
       ∙ ap (join message_cmp (as_messages n more)) (sym (laws.append first (waiting_all es) rest))))
 
   grown : (es : AskedList) (items : List Arrival) (rest : List Message) → lookup (is_at (noted_cmp n)) es ≡ Some items
-      → join message_cmp (waiting_all (set_value (is_at (noted_cmp n)) es (items ++ more))) rest ≡ join message_cmp (as_messages n more) (join message_cmp (waiting_all es) rest)
+      → join message_cmp (waiting_all (set_value (is_at (noted_cmp n)) es (bag_of arrival_cmp (items ++ more)))) rest ≡ join message_cmp (as_messages n more) (join message_cmp (waiting_all es) rest)
   grown [] items rest found = absurd (none_is_some found)
   grown (e ∷ es) items rest found = by (is_at (noted_cmp n) e.0) refl found (λ later. grown es items rest later)
     where
       by : (b : Bool) → is_at (noted_cmp n) e.0 ≡ b → cond b (Some e.1) (lookup (is_at (noted_cmp n)) es) ≡ Some items
           → (lookup (is_at (noted_cmp n)) es ≡ Some items
-          → join message_cmp (waiting_all (set_value (is_at (noted_cmp n)) es (items ++ more))) rest ≡ join message_cmp (as_messages n more) (join message_cmp (waiting_all es) rest))
-          → join message_cmp (waiting_all (cond b ((e.0, items ++ more) ∷ es) (e ∷ set_value (is_at (noted_cmp n)) es (items ++ more)))) rest
+          → join message_cmp (waiting_all (set_value (is_at (noted_cmp n)) es (bag_of arrival_cmp (items ++ more)))) rest ≡ join message_cmp (as_messages n more) (join message_cmp (waiting_all es) rest))
+          → join message_cmp (waiting_all (cond b ((e.0, bag_of arrival_cmp (items ++ more)) ∷ es) (e ∷ set_value (is_at (noted_cmp n)) es (bag_of arrival_cmp (items ++ more))))) rest
           ≡ join message_cmp (as_messages n more) (join message_cmp (waiting_all (e ∷ es)) rest)
       by true same found later =
           let key : e.0 ≡ n = sym (ties apart n e.0 same) in
@@ -84,21 +106,21 @@ module _ (apart : IsAntisymmetric time_cmp) (laws : BagLaws message_cmp) (n : No
           or : List Arrival → Option (List Arrival) → List Arrival
           or z None = z
           or z (Some v) = v
-      by false other found later = later_part (as_messages e.0 e.1) es (set_value (is_at (noted_cmp n)) es (items ++ more)) rest (later found)
+      by false other found later = later_part (as_messages e.0 e.1) es (set_value (is_at (noted_cmp n)) es (bag_of arrival_cmp (items ++ more))) rest (later found)
 
   put_in : (es : AskedList) (rest : List Message) → lookup (is_at (noted_cmp n)) es ≡ None
-      → join message_cmp (waiting_all (insert_entry noted_cmp es n more)) rest ≡ join message_cmp (as_messages n more) (join message_cmp (waiting_all es) rest)
-  put_in [] rest none = laws.append (as_messages n more) [] rest
+      → join message_cmp (waiting_all (insert_entry noted_cmp es n (bag_of arrival_cmp more))) rest ≡ join message_cmp (as_messages n more) (join message_cmp (waiting_all es) rest)
+  put_in [] rest none = laws.append (as_messages n (bag_of arrival_cmp more)) [] rest ∙ in_bag n more rest
   put_in (e ∷ es) rest none = by (noted_cmp n e.0) refl none (λ later. put_in es rest later)
     where
       by : (o : Ordering) → noted_cmp n e.0 ≡ o → cond (is_eq o) (Some e.1) (lookup (is_at (noted_cmp n)) es) ≡ None
           → (lookup (is_at (noted_cmp n)) es ≡ None
-          → join message_cmp (waiting_all (insert_entry noted_cmp es n more)) rest ≡ join message_cmp (as_messages n more) (join message_cmp (waiting_all es) rest))
-          → join message_cmp (waiting_all (match_ordering o ((n, more) ∷ e ∷ es) ((e.0, more) ∷ es) (e ∷ insert_entry noted_cmp es n more))) rest
+          → join message_cmp (waiting_all (insert_entry noted_cmp es n (bag_of arrival_cmp more))) rest ≡ join message_cmp (as_messages n more) (join message_cmp (waiting_all es) rest))
+          → join message_cmp (waiting_all (match_ordering o ((n, bag_of arrival_cmp more) ∷ e ∷ es) ((e.0, bag_of arrival_cmp more) ∷ es) (e ∷ insert_entry noted_cmp es n (bag_of arrival_cmp more)))) rest
           ≡ join message_cmp (as_messages n more) (join message_cmp (waiting_all (e ∷ es)) rest)
-      by Less is none later = laws.append (as_messages n more) (waiting_all (e ∷ es)) rest
+      by Less is none later = laws.append (as_messages n (bag_of arrival_cmp more)) (waiting_all (e ∷ es)) rest ∙ in_bag n more (join message_cmp (waiting_all (e ∷ es)) rest)
       by Equal is none later = absurd (none_is_some (sym none))
-      by Greater is none later = later_part (as_messages e.0 e.1) es (insert_entry noted_cmp es n more) rest (later none)
+      by Greater is none later = later_part (as_messages e.0 e.1) es (insert_entry noted_cmp es n (bag_of arrival_cmp more)) rest (later none)
 
   -- MORE ITEMS of one shard
   pub more_wait : (es : AskedList) (rest : List Message)

@@ -9,7 +9,8 @@ use Rattle.std.specs.Cmp.{nat_cmp_total}
 use Rattle.std.specs.FinMap.{nat_cmp-IsAntisymmetric}
 use Rattle.std.proofs.lemmas.Cmp.{tied_itself}
 use Rattle.td_stamp.specs.declared.values.Arrival.{Arrival}
-use Rattle.td_stamp.specs.Bag.{set_insert, set_of, has}
+use Rattle.td_stamp.specs.Bag.{bag_of, set_insert, set_of, has}
+use Rattle.td_stamp.specs.Orders.{arrival_cmp}
 use Rattle.td_stamp.specs.BagLaws.{SetLaws}
 use Rattle.td_stamp.specs.Time.{Timestamp, time_cmp}
 use Rattle.td_machine.specs.declared.records.Notification.{Notification}
@@ -135,14 +136,14 @@ module _ (s v : ℕ) (t : Timestamp) where
         by false rest = ap (λ l. asked_of_shard s e ∷ l) rest
 
     put_in : (es : AskedList) → items_at es v t ≡ None
-        → IsPutIn (asks s v t) (map (asked_of_shard s) es) (map (asked_of_shard s) (insert_entry noted_cmp es (noted_at v t) more))
+        → IsPutIn (asks s v t) (map (asked_of_shard s) es) (map (asked_of_shard s) (insert_entry noted_cmp es (noted_at v t) (bag_of arrival_cmp more)))
     put_in [] none = record { before = []; after = []; was = refl; is = refl }
     put_in (e ∷ es) none = by (noted_cmp (noted_at v t) e.0) none (λ later. put_in es later)
       where
         by : (o : Ordering) → cond (is_eq o) (Some e.1) (items_at es v t) ≡ None
-            → (items_at es v t ≡ None → IsPutIn (asks s v t) (map (asked_of_shard s) es) (map (asked_of_shard s) (insert_entry noted_cmp es (noted_at v t) more)))
+            → (items_at es v t ≡ None → IsPutIn (asks s v t) (map (asked_of_shard s) es) (map (asked_of_shard s) (insert_entry noted_cmp es (noted_at v t) (bag_of arrival_cmp more))))
             → IsPutIn (asks s v t) (map (asked_of_shard s) (e ∷ es))
-            (map (asked_of_shard s) (match_ordering o ((noted_at v t, more) ∷ e ∷ es) ((e.0, more) ∷ es) (e ∷ insert_entry noted_cmp es (noted_at v t) more)))
+            (map (asked_of_shard s) (match_ordering o ((noted_at v t, bag_of arrival_cmp more) ∷ e ∷ es) ((e.0, bag_of arrival_cmp more) ∷ es) (e ∷ insert_entry noted_cmp es (noted_at v t) (bag_of arrival_cmp more))))
         by Less none later = record { before = []; after = map (asked_of_shard s) (e ∷ es); was = refl; is = refl }
         by Equal none later = absurd (none_is_some (sym none))
         by Greater none later =
@@ -158,5 +159,5 @@ module _ (s v : ℕ) (t : Timestamp) where
       where
         by : (o : Option (List Arrival)) → items_at es v t ≡ o
             → IsAskedFor (asks s v t) (map (asked_of_shard s) es) (map (asked_of_shard s) (with_items_by o es (noted_at v t) more))
-        by (Some items) found = inl (same_asked (is_at (noted_cmp (noted_at v t))) es (items ++ more), asked_here es ∙ ap is_some found)
+        by (Some items) found = inl (same_asked (is_at (noted_cmp (noted_at v t))) es (bag_of arrival_cmp (items ++ more)), asked_here es ∙ ap is_some found)
         by None none = inr (put_in es none)

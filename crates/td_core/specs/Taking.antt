@@ -51,9 +51,15 @@ pub record IsTaken (old new : Parts) (task : Task) : Type 0 where
   pub waiting : waits new.shards.items ≡ waits old.shards.items
   pub room : map room_of new.shards.items ≡ map room_of old.shards.items
 
--- all is as it was, but for room in the list of tasks
+-- all is as it was, but for the order in which items wait
+pub record IsReordered (old new : Parts) : Type 0 where
+  pub fields : new ≡ record old { shards = new.shards }
+  pub shards : new.shards.items ≡ old.shards.items
+
+-- all is as it was, but for room in the list of tasks, and for the order in which items wait
 pub record IsSame (old new : Parts) : Type 0 where
-  pub fields : new ≡ record old { out = new.out }
+  pub fields : new ≡ record old { shards = new.shards; out = new.out }
+  pub shards : new.shards.items ≡ old.shards.items
   pub out : new.out.items ≡ old.out.items
 
 -- or none was, and all is as it was

@@ -1,8 +1,10 @@
 //! Taking tasks.
-ghost use Rattle.std.specs.Prelude.{◌≡◌, ◌<◌, ◌≤◌, ◌+◌, ◌-◌, ◌++◌, ◌∷◌, [], ◌↔◌, IsTrue, ℕ, List, HoldsAt, IfOk, IfErr};
+ghost use Rattle.std.specs.Prelude.{◌≡◌, ◌<◌, ◌≤◌, ◌+◌, ◌-◌, ◌++◌, ◌∷◌, [], ◌↔◌, IsTrue, ℕ, List, HoldsAt, IfOk, IfErr, None};
 ghost use Rattle.std.specs.Prelude.{IfSome, OnErr, Some, filter, map, length, nat_le, ◌==◌, ◌⊎◌, false, true};
 ghost use Rattle.std.specs.List.{list_any};
+ghost use Rattle.td_stamp.specs.Bag.{bag_of};
 ghost use Rattle.td_stamp.specs.Groups.{groups};
+ghost use Rattle.td_stamp.specs.Orders.{arrival_cmp};
 ghost use Rattle.td_stamp.specs.States.{state_of as kept_of};
 ghost use Rattle.td_stamp.specs.declared.values.Arrival.{Arrival as AnyArrival};
 ghost use Rattle.td_shard.specs.declared.waiting.Noted.{Noted as AnyNoted};
@@ -19,7 +21,7 @@ ghost use Rattle.td_core.specs.Picks.{IsPick, IsFull};
 ghost use Rattle.td_core.specs.Taking.{changed_at, IsThere, IsTakeRefused, IsSame, IsTakenIf, HasRoomBack, IsLastTake};
 ghost use Rattle.td_core.specs.Taking.{asked_at, AreAsked, AreReady, IsNextReady, comes_after, comes_before, earlier, asked_of};
 ghost use Rattle.td_core.specs.Taking.{IsReadyAt, IsPlaceOf, IsPicked, IsTaskFor, mails_without, room_of, IsTakenFor};
-ghost use Rattle.td_core.specs.Taking.{IsPickTaken, IsChosen, IsPickRefused};
+ghost use Rattle.td_core.specs.Taking.{IsPickTaken, IsChosen, IsPickRefused, IsReordered};
 ghost use Rattle.td_core.specs.declared.take.Candidate.TheVariants.{Message, Notification};
 ghost use Rattle.td_core.specs.declared.error.HallError.TheVariants.{Memory};
 
@@ -37,7 +39,7 @@ use td_reach::{Place, Stamp};
 use td_shard::laws::tasks;
 use td_shard::{Noted, Shard, Versions, Waiting};
 use td_stamp::laws::{groups_of_a_bag, time_list_order};
-use td_stamp::{Arrival, Bag, States, Time};
+use td_stamp::{Arrival, States, Time};
 use td_task::{KeyedItems, Task, Work};
 
 /// Tasks are numbered up to this.
@@ -164,14 +166,17 @@ fn take_there(parts: &mut Parts, shard: u8, pick: u64) -> Result<Option<Task>, H
     Ok(Some(task))
 }
 
-/// The candidate of a shard that a pick names, with its task, if there is one. Refusals: `Spent` and `Memory`.
-fn chosen(parts: &Parts, shard: u8, pick: u64) -> Result<Option<(Candidate, Task)>, HallError>
-    requires within { shard < length parts.now.shards.items }
-    requires asked { HoldsAt (λ s. AreAsked parts.now.table (asked_at s)) parts.now.shards.items shard }
-    requires routes { IsRoutes parts.now.table.plan parts.now.routes }
-    requires numbers { parts.now.taken ≤ ends }
-    ensures chosen { IfOk result (IsChosen shard pick parts.now) }
-    ensures refused { IfErr result (IsPickRefused shard pick parts.now) }
+/// The candidate of a shard that a pick names, with its task, if there is one. Refusals: `Spent` and `Memory`. What waits for a
+/// notification is sorted where it stands, before it is copied by key.
+fn chosen(parts: &mut Parts, shard: u8, pick: u64) -> Result<Option<(Candidate, Task)>, HallError>
+    requires within { shard < length parts.old.shards.items }
+    requires asked { HoldsAt (λ s. AreAsked parts.old.table (asked_at s)) parts.old.shards.items shard }
+    requires routes { IsRoutes parts.old.table.plan parts.old.routes }
+    requires numbers { parts.old.taken ≤ ends }
+    ensures chosen { IfOk result (IsChosen shard pick parts.old) }
+    ensures none { IfOk result (λ found. found ≡ None → parts.new ≡ parts.old) }
+    ensures refused { IfErr result (IsPickRefused shard pick parts.old) }
+    ensures same { IsReordered parts.old parts.new }
 {
     let there = &parts.shards[usize::from(shard)];
     let Some(candidate) = picked(&parts.table, &parts.routes, there, pick) else {
@@ -180,8 +185,33 @@ fn chosen(parts: &Parts, shard: u8, pick: u64) -> Result<Option<(Candidate, Task
     if parts.taken == MOST_TASKS {
         return Err(HallError::Spent);
     }
-    let task = task_for(parts, there, shard, &candidate)?;
+    sort_items(&mut parts.shards, shard, &candidate);
+    let task = task_at(parts, shard, &candidate)?;
     Ok(Some((candidate, task)))
+}
+
+/// A task for a candidate of the shard with this number. Refusal: `Memory`.
+fn task_at(parts: &Parts, shard: u8, candidate: &Candidate) -> Result<Task, HallError>
+    requires within { shard < length parts.now.shards.items }
+    requires routes { IsRoutes parts.now.table.plan parts.now.routes }
+    requires numbers { parts.now.taken < ends }
+    requires there { HoldsAt (λ s. IsThere s candidate.now) parts.now.shards.items shard }
+    ensures ok { IfOk result (λ task. HoldsAt (λ s. IsTaskFor parts.now shard s candidate.now task) parts.now.shards.items shard) }
+    ensures memory { IfErr result (λ e. e ≡ Memory) }
+{
+    task_for(parts, &parts.shards[usize::from(shard)], shard, candidate)
+}
+
+/// Sorts what waits for the notification of a candidate, where it stands.
+fn sort_items(shards: &mut Vec<Shard>, shard: u8, candidate: &Candidate)
+    requires within { shard < length shards.old.items }
+    ensures { shards.new.items ≡ shards.old.items }
+{
+    if let Candidate::Notification(noted) = candidate {
+        shards[usize::from(shard)]
+            .waiting
+            .sort(noted.vertex, &noted.time);
+    }
 }
 
 /// The candidate of a shard that a pick names, if there is one. Where the pick is below the number of its messages, the
@@ -407,21 +437,20 @@ fn notification_task(
     ))
 }
 
-/// What waits for a notification; nothing, where that is not asked for.
+/// What waits for a notification, in some order; nothing, where that is not asked for.
 fn items_of<'a>(waiting: &'a Waiting, noted: &Noted) -> &'a [Arrival]
-    ensures { (items : List AnyArrival) → items_at waiting.now noted.now.vertex noted.now.time ≡ Some items → result.now ≡ items }
+    ensures { (items : List AnyArrival) → items_at waiting.now noted.now.vertex noted.now.time ≡ Some items → bag_of arrival_cmp result.now ≡ items }
 {
     waiting.items(noted.vertex, &noted.time).unwrap_or(&[])
 }
 
 /// What waits, by key. Refusal: `Memory`.
 fn grouped(alloc: Global, items: &[Arrival]) -> Result<KeyedItems, HallError>
-    ensures ok { IfOk result (λ keyed. keyed ≡ map without_state (groups items.now)) }
+    ensures ok { IfOk result (λ keyed. keyed ≡ map without_state (groups (bag_of arrival_cmp items.now))) }
     ensures memory { IfErr result (λ e. e ≡ Memory) }
 {
     groups_of_a_bag();
-    let bag = Bag::from_vec(alloc, Vec::from_slice(alloc, items)?);
-    match KeyedItems::grouped(alloc, &bag) {
+    match KeyedItems::grouped(alloc, items) {
         Ok(keyed) => Ok(keyed),
         Err(_) => Err(HallError::Memory),
     }

@@ -12,6 +12,7 @@ pub mod InOneList
 pub mod Ordered
 pub mod Placed
 pub mod Trimmed
+pub mod Gathered
 pub mod Viewed
 pub mod LeftOrders
 mod LatestVersions

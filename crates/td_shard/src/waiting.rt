@@ -1,7 +1,9 @@
 //! What waits at the groups and folds of a shard, and the notifications that it asked for.
 ghost use Rattle.std.specs.Prelude.{◌≡◌, ◌++◌, ◌<◌, [], length, map, is_some, OnOk, OnErr, refl};
-ghost use Rattle.std.specs.Option.{option_copied};
+ghost use Rattle.std.specs.Option.{option_copied, option_map};
+ghost use Rattle.td_stamp.specs.Bag.{bag_of};
 ghost use Rattle.td_stamp.specs.Groups.{arrival_of};
+ghost use Rattle.td_stamp.specs.Orders.{arrival_cmp};
 ghost use Rattle.td_shard.specs.Asked.{items_at, with_items, without_items, noted_cmp};
 ghost use Rattle.std.specs.Ordering.{as_partial_cmp, eq_by_cmp};
 ghost use Rattle.std.specs.Cmp.{partial_equiv_from_equiv, partial_order_from_total};
@@ -12,13 +14,14 @@ use std::cmp::Ordering;
 use std::collections::BTreeMap;
 use std::collections::btree_map::Keys;
 use std::marker::Model;
-use td_stamp::{Arrival, Rec, StampError as ShardError, Time};
+use td_stamp::laws::{bags, joins};
+use td_stamp::{Arrival, Rec, StampError as ShardError, Time, sort};
 
 /// The items that wait for notifications, and the notifications that are asked for (Naiad, section 2.2: NotifyAt). Contracts
-/// see the notifications in their order, each with its items as they came.
+/// see the notifications in their order, each with the bag of its items.
 ///
-/// The items of a vertex and time are pushed into one list, and stand there as they came. They are sorted once, when the
-/// notification is taken.
+/// The items of a vertex and time are pushed into one list, and stand there as they came. They are sorted once, where they stand,
+/// when the notification is taken.
 #[derive(Drop)]
 pub struct Waiting {
     asked: BTreeMap<Noted, Vec<Arrival>>,
@@ -27,11 +30,13 @@ pub struct Waiting {
 
 impl Model for Waiting {
     ghost use Rattle.std.specs.Prelude.{map};
+    ghost use Rattle.td_stamp.specs.Bag.{bag_of};
+    ghost use Rattle.td_stamp.specs.Orders.{arrival_cmp};
     ghost use Rattle.td_shard.specs.Asked.{AskedList};
 
     ghost Value = { AskedList };
 
-    ghost view = { λ w. map (λ e. (e.0, e.1.items)) w.asked.entries };
+    ghost view = { λ w. map (λ e. (e.0, bag_of arrival_cmp e.1.items)) w.asked.entries };
 }
 
 impl Waiting {
@@ -67,14 +72,26 @@ impl Waiting {
         self.asked.keys()
     }
 
-    /// The items that wait at a vertex and time, as they came, where its notification is asked for. Takes no memory.
+    /// The items that wait at a vertex and time, in some order, where its notification is asked for. Takes no memory.
     pub fn items(&self, vertex: u8, time: &Time) -> Option<&[Arrival]>
-        ensures { option_copied result ≡ items_at self.now vertex time.now }
+        ensures { option_map (bag_of arrival_cmp) (option_copied result) ≡ items_at self.now vertex time.now }
     {
         let time = time.copy();
         match self.asked.get(&Noted { time, vertex }) {
             Some(items) => Some(items.as_slice()),
             None => None,
+        }
+    }
+
+    /// Sorts the items that wait at a vertex and time, where they stand. Many with small numbers take 8 bytes each meanwhile, if there
+    /// is room.
+    pub fn sort(&mut self, vertex: u8, time: &Time)
+        ensures { self.new ≡ self.old }
+    {
+        bags::<Arrival>();
+        let time = time.copy();
+        if let Some(items) = self.asked.get_mut(&Noted { time, vertex }) {
+            sort(self.alloc, items.as_mut_slice());
         }
     }
 
@@ -91,6 +108,8 @@ impl Waiting {
         ensures ok { OnOk result (self.new ≡ with_items self.old vertex time.now (map (arrival_of port) recs.now)) }
         ensures err { OnErr result (self.new ≡ self.old) }
     {
+        bags::<Arrival>();
+        joins::<Arrival>();
         let time = time.copy();
         let noted = Noted { time, vertex };
         match self.asked.get_mut(&noted) {

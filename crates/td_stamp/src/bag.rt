@@ -4,9 +4,9 @@ ghost use Rattle.std.specs.Prelude.{◌≡◌, ◌↔◌, ◌++◌, ◌∷◌, O
 ghost use Rattle.td_stamp.specs.Bag.{bag_insert, bag_of, join, members, IsBag};
 ghost use Rattle.std.specs.Iterator.{at_most, YieldsFirst};
 
-use crate::counting::{count_in, count_one};
 use crate::error::StampError;
 use crate::member::Member;
+use crate::repeats::{count_in, count_one};
 use std::alloc::Global;
 use std::collections::BTreeMap;
 use std::collections::btree_map::Iter;
@@ -254,12 +254,19 @@ const MANY: usize = 32;
 /// room. A member has a number where its value fits 32 bits and its key is below 2^28, or below 2^32 of a record alone. An
 /// arrival's port is below 16, and all vertices are of one block of 16. The numbers take 8 bytes each meanwhile. Without room for
 /// them the members are sorted as they are, so there is no refusal.
-pub(crate) fn sort<T: Member>(alloc: Global, members: &mut [T])
+pub fn sort<T: Member>(alloc: Global, members: &mut [T])
     ensures { members.new ≡ bag_of T.cmp members.old }
 {
-    if !members.is_sorted() && !sort_as_numbers(alloc, members) {
+    if !is_in_order(members) && !sort_as_numbers(alloc, members) {
         members.sort_unstable();
     }
+}
+
+/// Whether members come in order. It goes over them once.
+pub fn is_in_order<T: Member>(members: &[T]) -> bool
+    ensures { IsTrue result ↔ IsBag T.cmp members.now }
+{
+    members.is_sorted()
 }
 
 /// Sorts many members as numbers, or leaves them as they are: where they are few, one has no number, or there is no room.

@@ -10,7 +10,6 @@
 
 mod bag;
 mod batch;
-mod counting;
 mod epoch_out;
 mod equal;
 mod error;
@@ -19,11 +18,12 @@ pub mod laws;
 mod member;
 mod numbers;
 mod ordered;
+mod repeats;
 mod states;
 mod time;
 mod values;
 
-pub use bag::{Bag, Members};
+pub use bag::{Bag, Members, is_in_order, sort};
 pub use batch::{Batch, Records};
 pub use epoch_out::EpochOut;
 pub use error::StampError;

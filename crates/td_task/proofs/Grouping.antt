@@ -1,6 +1,7 @@
 -- The keys of arrivals that come in order, put together one arrival after another.
-use Rattle.std.proofs.Common.{◌≡◌, ℕ, suc, ◌+◌, ◌<◌, ◌≤◌, ◌==◌, List, [], ◌∷◌, ◌++◌, length, map, cond, Bool, true, false, refl, ap, sym, ◌∙◌, subst, arith, append_assoc, length-append, eq-eqb, eqb-true}
+use Rattle.std.proofs.Common.{◌≡◌, ℕ, suc, ◌+◌, ◌<◌, ◌≤◌, ◌==◌, List, [], ◌∷◌, ◌++◌, length, map, drop, get_or, zero, cond, Bool, true, false, refl, ap, sym, ◌∙◌, subst, arith, append_assoc, length-append, eq-eqb, eqb-true}
 use Rattle.std.specs.Prelude.{Option, Some, None}
+use Rattle.std.proofs.Math.IntN.{pos}
 use Rattle.td_stamp.specs.declared.values.Item.{Item}
 use Rattle.td_stamp.specs.declared.values.Arrival.{Arrival}
 use Rattle.td_stamp.specs.Groups.{runs, with_first}
@@ -136,6 +137,23 @@ keys_after-few last (a ∷ rest) = by (is_key last a.key) (keys_after-few (Some 
     by : (b : Bool) → keys_after (Some a.key) rest ≤ length rest → cond b 0 1 + keys_after (Some a.key) rest ≤ suc (length rest)
     by true k = omega arith
     by false k = omega arith
+
+-- the arrival that comes next
+pub next_of : (xs : List Arrival) (i : ℕ) (d : Arrival) → i < length xs → drop i xs ≡ get_or xs i d ∷ drop (i + 1) xs
+next_of [] i d lt = absurd (omega arith)
+next_of (x ∷ xs) zero d lt = refl
+next_of (x ∷ xs) (suc i) d lt = let e : suc (i + 1) ≡ suc i + 1 = omega arith in next_of xs i d (omega arith) ∙ (λ j. get_or xs i d ∷ drop (e j) (x ∷ xs))
+
+-- there is none behind the last
+pub none_left : (xs : List Arrival) (i : ℕ) → (i < length xs → ⊥) → drop i xs ≡ []
+none_left [] zero past = refl
+none_left [] (suc i) past = refl
+none_left (x ∷ xs) zero past = absurd (past (omega arith))
+none_left (x ∷ xs) (suc i) past = none_left xs i (λ lt. past (omega (arith, lt)))
+
+-- what stands at no place
+abbrev pub no_arrival : Arrival
+no_arrival = record { key = 0; item = record { port = 0; val = pos 0 } }
 
 -- ONE STEP: where these arrivals are still to come, of which one comes now
 pub next_arrival : (keys : List KeyItems) (last : Option ℕ) (left rest all : List Arrival) (a : Arrival) → with_arrivals keys left ≡ with_arrivals [] all → left ≡ a ∷ rest → last ≡ last_key keys →

@@ -1,6 +1,8 @@
 //! What a notification is given: keys with their items and states, in lists that are kept end to end.
 ghost use Rattle.std.specs.Prelude.{◌≡◌, ◌↔◌, IsTrue, ◌<◌, ◌^◌, ◌∷◌, ◌++◌, ◌+◌, ◌≤◌, [], false, map, OnOk, OnErr, IfOk, IfErr, Option, length, slice_get, slice_set, Some, None, true, vec_len, vec_capacity, slice_range};
+ghost use Rattle.td_stamp.specs.Bag.{IsBag, bag_of};
 ghost use Rattle.td_stamp.specs.Groups.{groups};
+ghost use Rattle.td_stamp.specs.Orders.{arrival_cmp};
 ghost use Rattle.td_machine.specs.State.{KeyItems as AnyKey};
 ghost use Rattle.td_task.specs.Arriving.{is_key, keys_after, with_arrival_by};
 ghost use Rattle.td_task.specs.KeyAts.{key_items};
@@ -13,7 +15,7 @@ ghost use Rattle.td_task.specs.Cuts.{start_of, with_last};
 use crate::error::TaskError;
 use std::alloc::Global;
 use std::marker::Model;
-use td_stamp::{Arrival, Bag, Item, State, laws};
+use td_stamp::{Arrival, Item, State, is_in_order, laws, sort};
 
 /// A key, and the state that is kept for it.
 #[derive(Clone, Copy, Debug, PartialEq, Eq)]
@@ -63,20 +65,35 @@ impl KeyedItems {
         }
     }
 
-    /// The keys of some arrivals in order, each with its sorted items and no state. It goes over the arrivals twice, and
-    /// takes memory three times whatever their number: the keys are counted first. Refusal: `Memory`.
-    pub fn grouped(alloc: Global, arrivals: &Bag<Arrival>) -> Result<KeyedItems, TaskError>
+    /// The keys of some arrivals in order, each with its sorted items and no state. Arrivals that come in order are not copied.
+    /// It takes memory three times whatever their number: the keys are counted first. Refusal: `Memory`.
+    pub fn grouped(alloc: Global, arrivals: &[Arrival]) -> Result<KeyedItems, TaskError>
+        ensures keys { IfOk result (λ made. made ≡ map without_state (groups arrivals.now)) }
+        ensures memory { IfErr result (λ e. e ≡ Memory) }
+    {
+        laws::groups_of_a_bag();
+        laws::bags::<Arrival>();
+        if is_in_order(arrivals) {
+            return KeyedItems::of_runs(alloc, arrivals);
+        }
+        let mut sorted = Vec::from_slice(alloc, arrivals)?;
+        sort(alloc, sorted.as_mut_slice());
+        KeyedItems::of_runs(alloc, sorted.as_slice())
+    }
+
+    /// The same of arrivals that come in order. It goes over them twice.
+    fn of_runs(alloc: Global, arrivals: &[Arrival]) -> Result<KeyedItems, TaskError>
+        requires { IsBag arrival_cmp arrivals.now }
         ensures keys { IfOk result (λ made. made ≡ map without_state (groups arrivals.now)) }
         ensures memory { IfErr result (λ e. e ≡ Memory) }
     {
         laws::groups_are_runs();
-        let members = arrivals.len();
         let count = key_count(arrivals);
         let mut keys = Vec::with_capacity(alloc, count)?;
-        let mut items = Lists::with_capacity(alloc, count, members)?;
+        let mut items = Lists::with_capacity(alloc, count, arrivals.len())?;
         let mut last = None;
-        for arrival in arrivals.list() {
-            put(&mut keys, &mut items, is_key(last, arrival.key), arrival);
+        for arrival in arrivals {
+            put(&mut keys, &mut items, is_key(last, arrival.key), *arrival);
             last = Some(arrival.key);
         }
         Ok(KeyedItems { keys, items })
@@ -140,14 +157,13 @@ fn same_keys(keys: &[Key], others: &[Key]) -> bool
     keys == others
 }
 
-/// How many keys some arrivals have, of which there are few enough to be counted.
-fn key_count(arrivals: &Bag<Arrival>) -> usize
-    requires { length arrivals.now < 2 ^ 64 }
+/// How many keys some arrivals have that come in order.
+fn key_count(arrivals: &[Arrival]) -> usize
     ensures { result ≡ keys_after None arrivals.now }
 {
     let mut count = 0;
     let mut last = None;
-    for arrival in arrivals.list() {
+    for arrival in arrivals {
         if !is_key(last, arrival.key) {
             count += 1;
         }

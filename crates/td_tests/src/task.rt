@@ -4,7 +4,7 @@ use std::sync::Arc;
 use std::test::Fail;
 use td_calls::{Calls, MapBox, Stock, StockCalls, StockMap, stock};
 use td_plan::Kind;
-use td_stamp::{Item, Rec, Time};
+use td_stamp::{Arrival, Item, Rec, Time, is_in_order, sort};
 use td_task::{KeyedItems, Task, TaskError, Work};
 
 /// The last of the records of `task`.
@@ -51,4 +51,26 @@ fn keys_are_added(rt: HostRuntime) -> Result<(), Fail> {
     items.add(4, &[Item { port: 0, val: 1 }], None)?;
     assert_eq!(rt; items.len(), 1);
     Ok(())
+}
+
+/// Arrivals that come in order are not copied, and others are: the keys are the same.
+#[test]
+fn keys_are_those_of_arrivals_in_any_order(rt: HostRuntime) -> Result<(), Fail> {
+    let arrivals = [arrival(7, 2), arrival(3, 5), arrival(7, 1)];
+    let mut sorted = arrivals;
+    sort(rt.alloc(), &mut sorted);
+    assert!(rt; is_in_order(&sorted));
+    assert!(rt; !is_in_order(&arrivals));
+    let keys = KeyedItems::grouped(rt.alloc(), &arrivals)?;
+    assert_eq!(rt; keys.len(), 2);
+    assert!(rt; keys.same(&KeyedItems::grouped(rt.alloc(), &sorted)?));
+    Ok(())
+}
+
+/// A value that arrives at port 0.
+fn arrival(key: u64, val: i64) -> Arrival {
+    Arrival {
+        key,
+        item: Item { port: 0, val },
+    }
 }

@@ -2,7 +2,7 @@ use Rattle.std.proofs.Common.{◌≡◌, ◌++◌, ◌∷◌, [], ap, sym, ◌�
 use Rattle.std.proofs.lemmas.List.{take_more}
 use Rattle.td_stamp.specs.Bag.{bag_insert, bag_of, members}
 use Rattle.td_stamp.proofs.Bags.{length-join, bag_of-push}
-use Rattle.td_stamp.proofs.counting.counted.Goals as goal
+use Rattle.td_stamp.proofs.repeats.counted.Goals as goal
 
 pub count_one-requires : goal.count_one-requires
 count_one-requires g c =

@@ -3,7 +3,7 @@ use Rattle.std.specs.Prelude.{unwrap_or}
 use Rattle.std.specs.Map.{lookup}
 use Rattle.std.specs.BTreeMap.{is_at}
 use Rattle.td_stamp.proofs.Counts.{lookup-members, more_counted}
-use Rattle.td_stamp.proofs.counting.count_one.Goals as goal
+use Rattle.td_stamp.proofs.repeats.count_one.Goals as goal
 
 pub overflow_add-count : goal.overflow_add-count
 overflow_add-count g c =

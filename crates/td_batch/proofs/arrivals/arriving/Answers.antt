@@ -1,6 +1,6 @@
 use Rattle.std.proofs.Common.{arith}
 use Rattle.std.proofs.lemmas.Grind.{common_steps}
-use Rattle.td_batch.proofs.arriving.arriving.Goals as goal
+use Rattle.td_batch.proofs.arrivals.arriving.Goals as goal
 
 pub loop-source-preserved : goal.loop-source-preserved
 loop-source-preserved c = grind (arith, common_steps)

@@ -3,7 +3,7 @@ use Rattle.std.specs.List.{enumerate_from}
 use Rattle.td_stamp.specs.Groups.{arrival_of}
 use Rattle.td_calls.specs.Callbacks.{arrivals}
 use Rattle.td_batch.specs.Meaning.{emitted, bags_read}
-use Rattle.td_batch.proofs.arriving.arriving.Given as goal
+use Rattle.td_batch.proofs.arrivals.arriving.Given as goal
 
 -- what arrived so far, and what arrives at the ports that are left
 abbrev pub invariant-loop-source : goal.invariant-loop-source
