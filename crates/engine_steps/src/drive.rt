@@ -6,7 +6,7 @@ use crate::device::Device;
 use crate::error::StepError;
 use crate::gate::{Passage, RowGate};
 use crate::replies::{print_ended, print_replies};
-use crate::worker::{Served, beside};
+use crate::worker::{Replies, Served, beside};
 use std::alloc::Global;
 use std::marker::Brand;
 use std::sync::Wait;
@@ -57,7 +57,22 @@ fn drive_pool<K: Crew + Send + Sync, R: Print + Threads + Wait + Clock + Sync>(
     let Ok((pool, seats)) = Pool::<K, Stock>::new(alloc, hall, blank) else {
         return Err(StepError::Memory);
     };
-    let (replies, served) = beside(rt, alloc, keeper, &pool, seats, calls, gate, commands)?;
+    match beside(rt, alloc, keeper, &pool, seats, calls, gate, commands) {
+        Ok((replies, served)) => gather_served(rt, alloc, pool, replies, served),
+        Err(error) => Err(error),
+    }
+}
+
+/// Prints the replies, and what became of the workers and their seats, and gathers.
+fn gather_served<K: Crew>(
+    rt: &impl Print,
+    alloc: Global,
+    pool: Pool<K, Stock>,
+    replies: Replies,
+    served: Vec<Served<K>>,
+) -> Result<Option<Hall<Stock>>, StepError>
+    requires { K.parts ≡ K.shards }
+{
     print_replies(rt, replies)?;
     let seats = seats_of(rt, alloc, served)?;
     gather(rt, pool, seats)

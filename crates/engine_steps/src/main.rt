@@ -43,8 +43,18 @@ fn main(rt: HostRuntime) -> Result<(), StepError> {
         return Err(StepError::Syntax);
     };
     let plan = plan_of(rt.alloc(), text)?;
-    let mut stage = Stage::new(rt.alloc(), plan);
-    play(&rt, &mut stage, commands)
+    perform(&rt, rt.alloc(), plan, commands)
+}
+
+/// Does the commands of a text on a stage of its own. (The end of a stage is long to prove: so it stands in a function that does nothing else.)
+fn perform<R: Print + Threads + Wait + Clock + Sync>(
+    rt: &R,
+    alloc: Global,
+    plan: Plan,
+    commands: &str,
+) -> Result<(), StepError> {
+    let mut stage = Stage::new(alloc, plan);
+    play(rt, &mut stage, commands)
 }
 
 /// The plan of a text.

@@ -153,7 +153,8 @@ impl Stage {
             return Err(StepError::Syntax);
         }
         let hall = Hall::open(self.alloc, &self.plan, states, first, workers)?;
-        self.other = mem::replace(&mut self.hall, Some(hall));
+        mem::swap(&mut self.hall, &mut self.other);
+        put_hall(&mut self.hall, Some(hall));
         Ok(())
     }
 
@@ -182,9 +183,15 @@ impl Stage {
         let commands = commands_of(self.alloc, lines)?;
         let keeper = self.store.keeper()?;
         let hall = self.hall.take().ok_or(StepError::NoHall)?;
-        self.hall = drive(rt, self.alloc, keeper, hall, &self.calls, passage, commands)?;
+        let hall = drive(rt, self.alloc, keeper, hall, &self.calls, passage, commands)?;
+        put_hall(&mut self.hall, hall);
         Ok(())
     }
+}
+
+/// Puts a hall in the place of one that ends. (The end of a hall is long to prove: so it stands in a function that does nothing else.)
+fn put_hall(place: &mut Option<Hall<Stock>>, hall: Option<Hall<Stock>>) {
+    *place = hall;
 }
 
 /// The hall that was opened last.

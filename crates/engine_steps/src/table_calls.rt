@@ -25,16 +25,25 @@ pub(crate) fn table_call(
 ) -> Result<(), StepError> {
     let (name, words) = text.split_once(' ').ok_or(StepError::Syntax)?;
     match name {
-        "open" => {
-            *table = Some(opened(alloc, plan, number_of(words)?)?);
-            Ok(())
-        }
+        "open" => open(alloc, plan, table, words),
         "add" => add(rt, table_of(table)?, words),
         "take_off" => take_off(rt, table_of(table)?, words),
         "precursors" => print_precursors(rt, table_of(table)?, words),
         "in_frontier" => print_in_frontier(rt, table_of(table)?, words),
         _ => Err(StepError::Syntax),
     }
+}
+
+/// Opens a table, in the place of one that ends.
+fn open(
+    alloc: Global,
+    plan: &Plan,
+    table: &mut Option<Table>,
+    words: &str,
+) -> Result<(), StepError> {
+    let fresh = opened(alloc, plan, number_of(words)?)?;
+    *table = Some(fresh);
+    Ok(())
 }
 
 /// The table that was opened last.

@@ -1,6 +1,8 @@
 //! What the words of commands say.
 use crate::error::StepError;
 use std::alloc::Global;
+use std::num::ParseIntError;
+use std::str::{FromStr, SplitWhitespace};
 use td_disk::Fill;
 use td_journal::Submitted;
 use td_keeper::Group;
@@ -17,10 +19,8 @@ pub(crate) fn until_end(text: &str) -> Option<(&str, &str)> {
 /// The vertex, the key and the state of the words `VERTEX KEY A B`.
 pub(crate) fn state_of(text: &str) -> Option<(u8, u64, State)> {
     let mut words = text.split_whitespace();
-    let vertex = words.next()?.parse().ok()?;
-    let key = words.next()?.parse().ok()?;
-    let a = words.next()?.parse().ok()?;
-    let b = words.next()?.parse().ok()?;
+    let (vertex, key) = (next_number(&mut words)?, next_number(&mut words)?);
+    let (a, b) = (next_number(&mut words)?, next_number(&mut words)?);
     Some((vertex, key, State { a, b }))
 }
 
@@ -33,10 +33,15 @@ pub(crate) fn small_and_large(text: &str) -> Option<(u8, u64)> {
 /// The numbers of the words `M N K`.
 pub(crate) fn shape_of(text: &str) -> Option<(u32, u32, u32)> {
     let mut words = text.split_whitespace();
-    let m = words.next()?.parse().ok()?;
-    let n = words.next()?.parse().ok()?;
-    let k = words.next()?.parse().ok()?;
+    let m = next_number(&mut words)?;
+    let n = next_number(&mut words)?;
+    let k = next_number(&mut words)?;
     Some((m, n, k))
+}
+
+/// The number of the next word.
+fn next_number<T: FromStr<Err = ParseIntError>>(words: &mut SplitWhitespace) -> Option<T> {
+    words.next()?.parse().ok()
 }
 
 /// The number of a word.
@@ -72,9 +77,9 @@ pub(crate) fn numbered(words: &str) -> Option<(u64, &str)> {
 /// The entry of the words `INPUT KEY VAL`.
 fn entry_of(text: &str) -> Option<Entry> {
     let mut words = text.split_whitespace();
-    let input = words.next()?.parse().ok()?;
-    let key = words.next()?.parse().ok()?;
-    let val = words.next()?.parse().ok()?;
+    let input = next_number(&mut words)?;
+    let key = next_number(&mut words)?;
+    let val = next_number(&mut words)?;
     Some(Entry {
         input,
         rec: Rec { key, val },

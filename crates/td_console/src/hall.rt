@@ -1,5 +1,5 @@
 //! The answer text of a plan and batches, by a hall.
-ghost use Rattle.std.specs.Prelude.{◌≡◌, ◌≢◌, ◌⊎◌, ◌++◌, ◌+◌, ◌≤◌, ◌<◌, ◌^◌, ℕ, [], IfOk, IfErr, OnOk, None, IsTrue, true, All};
+ghost use Rattle.std.specs.Prelude.{◌≡◌, ◌≢◌, ◌⊎◌, ◌++◌, ◌+◌, ◌≤◌, ◌<◌, ◌^◌, ℕ, [], false, IfOk, IfErr, OnOk, None, IsTrue, true, All};
 ghost use Rattle.std.specs.Prelude.{length, string_bytes, flat_map};
 ghost use Rattle.std.specs.List.{list_all};
 ghost use Rattle.td_plan.specs.Blocks.{vertices};
@@ -45,19 +45,39 @@ pub(crate) fn hall_text<L: Law, C: Closures<L>>(
     ensures ok { IfOk result (λ text. string_bytes text ≡ lines_of_run L.answers plan.now batches.items) }
     ensures err { IfErr result (λ f. (f ≡ Fault.Memory) ⊎ (f ≡ Fault.Spent)) }
 {
-    run_joins::<L>();
     let mut hall = open_hall::<L>(alloc, plan, workers)?;
+    text_of_epochs::<L, C>(alloc, &mut hall, calls, batches)
+}
+
+/// The same by a hall that was opened for it. (The hall's owner does nothing else: each of its ways out has the end of a hall proved.)
+/// Refusals: `Memory`; `Spent`.
+fn text_of_epochs<L: Law, C: Closures<L>>(
+    alloc: Global,
+    hall: &mut Hall<L>,
+    calls: &C,
+    batches: Vec<Batch>,
+) -> Result<String, Fault>
+    requires fits { first_lack (C.stored calls.now) (vertices hall.old.plan) ≡ None }
+    requires accepted { All (λ batch. IsTrue (list_all (λ e. is_input_of hall.old.plan e.input) batch)) batches.items }
+    requires few { length batches.items < 2 ^ 63 }
+    requires between { IsBetween hall.old }
+    requires first { hall.old.next ≡ 1 }
+    requires without_states { (run_of L.answers hall.old).states ≡ [] }
+    ensures ok { IfOk result (λ text. string_bytes text ≡ lines_of_run L.answers hall.old.plan batches.items) }
+    ensures err { IfErr result (λ f. (f ≡ Fault.Memory) ⊎ (f ≡ Fault.Spent)) }
+{
+    run_joins::<L>();
     let mut text = String::new(alloc);
     let mut weight = 0;
     for batch in batches {
-        weight = weight_after(cut_if_due(&mut hall, weight)?, &batch);
-        run_epoch::<L, C>(&mut text, &mut hall, calls, batch)?;
+        weight = weight_after(cut_if_due(hall, weight)?, &batch);
+        run_epoch::<L, C>(&mut text, hall, calls, batch)?;
     }
     Ok(text)
 }
 
 /// A hall of so many shards for a plan, into which nothing was released. Refusal: `Memory`.
-fn open_hall<L: Law>(alloc: Global, plan: &Plan, workers: u8) -> Result<Hall<L>, Fault>
+pub(crate) fn open_hall<L: Law>(alloc: Global, plan: &Plan, workers: u8) -> Result<Hall<L>, Fault>
     requires some { 1 ≤ workers }
     requires most { workers ≤ 16 }
     ensures ok { IfOk result (λ hall. hall ≡ opened plan.now [] 1 workers) }
@@ -119,28 +139,20 @@ fn run_epoch<L: Law, C: Closures<L>>(
     }
 }
 
-/// A hall of so many shards, into which these batches were released from epoch 1 on. Refusal: `Memory`. `td sim` releases all
-/// first, as its answer is defined.
-pub(crate) fn released<L: Law>(
-    alloc: Global,
-    plan: &Plan,
-    batches: Vec<Batch>,
-    workers: u8,
-) -> Result<Hall<L>, Fault>
-    requires accepted { All (λ batch. IsTrue (list_all (λ e. is_input_of plan.now e.input) batch)) batches.items }
-    requires few { length batches.items < 2 ^ 63 }
-    requires some { 1 ≤ workers }
-    requires most { workers ≤ 16 }
-    ensures ok { IfOk result (λ hall. hall ≡ all_released (opened plan.now [] 1 workers) batches.items) }
+/// Releases these batches into an open hall, one after another. Refusal: `Memory`. `td sim` releases all first, as its answer is defined.
+pub(crate) fn release_all<L: Law>(hall: &mut Hall<L>, batches: Vec<Batch>) -> Result<(), Fault>
+    requires opened { hall.old.closed ≡ false }
+    requires accepted { All (λ batch. IsTrue (list_all (λ e. is_input_of hall.old.plan e.input) batch)) batches.items }
+    requires few { hall.old.next + length batches.items ≤ ends }
+    ensures ok { OnOk result (hall.new ≡ all_released hall.old batches.items) }
     ensures err { IfErr result (λ f. f ≡ Fault.Memory) }
 {
-    let mut hall = open_hall::<L>(alloc, plan, workers)?;
     for batch in batches {
         if let Err((error, _batch)) = hall.release(batch) {
             return Err(hall_fault(error));
         }
     }
-    Ok(hall)
+    Ok(())
 }
 
 /// Collects, and appends the output lines of all epochs. Refusal: `Memory`.

@@ -15,7 +15,7 @@ ghost use Rattle.td_console.specs.Answer.{lines_of_run};
 ghost use Rattle.td_console.specs.Turns.{all_released, IsSimulated, IsTurn, Played, note_by, note_line, notes_of, note_of, time_text};
 
 use crate::faults::Fault;
-use crate::hall::{hall_fault, print_collected, released};
+use crate::hall::{hall_fault, open_hall, print_collected, release_all};
 use std::alloc::Global;
 use std::fmt::Write;
 use td_calls::{Closures, Law};
@@ -45,13 +45,38 @@ pub(crate) fn sim_text<L: Law, C: Closures<L>>(
         × (string_bytes text ≡ notes_of turns ++ lines_of_run L.answers plan.now batches.items)) }
     ensures err { IfErr result (λ f. (f ≡ Fault.Memory) ⊎ (f ≡ Fault.Spent)) }
 {
+    let mut hall = open_hall::<L>(alloc, plan, workers)?;
+    simulate::<L, C>(alloc, plan, &mut hall, calls, batches, workers, picks)
+}
+
+/// The same by a hall that was opened for it (as in `text_of_epochs`). Refusals: `Memory`; `Spent`.
+fn simulate<L: Law, C: Closures<L>>(
+    alloc: Global,
+    plan: &Plan,
+    hall: &mut Hall<L>,
+    calls: &C,
+    batches: Vec<Batch>,
+    workers: u8,
+    picks: &[u64],
+) -> Result<String, Fault>
+    requires fits { first_lack (C.stored calls.now) (vertices plan.now) ≡ None }
+    requires accepted { All (λ batch. IsTrue (list_all (λ e. is_input_of plan.now e.input) batch)) batches.items }
+    requires few { length batches.items < 2 ^ 63 }
+    requires some { 1 ≤ workers }
+    requires most { workers ≤ 16 }
+    requires picks { 0 < length picks.now }
+    requires opened { hall.old ≡ opened plan.now [] 1 workers }
+    ensures ok { IfOk result (λ text. (turns : _) × IsSimulated L.answers plan.now batches.items workers turns
+        × (string_bytes text ≡ notes_of turns ++ lines_of_run L.answers plan.now batches.items)) }
+    ensures err { IfErr result (λ f. (f ≡ Fault.Memory) ⊎ (f ≡ Fault.Spent)) }
+{
     never_stuck::<L>();
     // Read for its contract alone.
     let _lawful = plan.vertices();
-    let mut hall = released::<L>(alloc, plan, batches, workers)?;
+    release_all(hall, batches)?;
     let mut text = String::new(alloc);
-    play::<L, C>(alloc, &mut hall, calls, workers, picks, &mut text)?;
-    print_collected::<L>(&mut text, &mut hall)?;
+    play::<L, C>(alloc, hall, calls, workers, picks, &mut text)?;
+    print_collected::<L>(&mut text, hall)?;
     Ok(text)
 }
 

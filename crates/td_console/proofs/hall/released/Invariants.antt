@@ -1,8 +1,0 @@
-use Rattle.std.proofs.Common.{◌≡◌, []}
-use Rattle.td_machine.specs.Steps.{opened}
-use Rattle.td_console.specs.Turns.{all_released}
-use Rattle.td_console.proofs.hall.released.Given as goal
-
--- the batches so far were released
-abbrev pub invariant-loop-batch : goal.invariant-loop-batch
-invariant-loop-batch g l = l.hall ≡ all_released (opened l.plan [] 1 l.workers) l.yielded
