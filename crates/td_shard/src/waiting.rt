@@ -84,7 +84,7 @@ impl Waiting {
     }
 
     /// Sorts the items that wait at a vertex and time, where they stand. Many with small numbers take 8 bytes each meanwhile, if there
-    /// is room.
+    /// is room. Contracts do not see the order; a test does. Where it is left out, a task's items are copied once more.
     pub fn sort(&mut self, vertex: u8, time: &Time)
         ensures { self.new ≡ self.old }
     {

@@ -65,8 +65,8 @@ impl KeyedItems {
         }
     }
 
-    /// The keys of some arrivals in order, each with its sorted items and no state. Arrivals that come in order are not copied.
-    /// It takes memory three times whatever their number: the keys are counted first. Refusal: `Memory`.
+    /// The keys of some arrivals in order, each with its sorted items and no state. It takes memory three times whatever their number:
+    /// the keys are counted first. Arrivals that come in no order are copied and sorted before. Refusal: `Memory`.
     pub fn grouped(alloc: Global, arrivals: &[Arrival]) -> Result<KeyedItems, TaskError>
         ensures keys { IfOk result (λ made. made ≡ map without_state (groups arrivals.now)) }
         ensures memory { IfErr result (λ e. e ≡ Memory) }

@@ -1,8 +1,9 @@
-//! What the program does not call of a shard: whether a distinct has seen a record, and the states after an epoch.
+//! What the program does not call of a shard: whether a distinct has seen a record, and the states after an epoch. What no contract
+//! sees: the order in which items wait.
 use std::test::Fail;
 use td_machine::StateLeft;
-use td_shard::{Seen, Versions};
-use td_stamp::{Rec, State, States, Time};
+use td_shard::{Seen, Versions, Waiting};
+use td_stamp::{Rec, State, States, Time, is_in_order};
 
 #[test]
 fn a_record_is_seen_until_it_is_let_go(rt: HostRuntime) -> Result<(), Fail> {
@@ -36,5 +37,29 @@ fn the_last_version_counts(rt: HostRuntime) -> Result<(), Fail> {
         Some(State { a: 31, b: 0 })
     );
     versions.let_go(3);
+    Ok(())
+}
+
+#[test]
+fn items_are_sorted_where_they_wait(rt: HostRuntime) -> Result<(), Fail> {
+    let mut waiting = Waiting::new(rt.alloc());
+    let time = Time::new(1);
+    waiting.wait(
+        2,
+        &time,
+        0,
+        &[Rec { key: 7, val: 1 }, Rec { key: 3, val: 5 }],
+    )?;
+    assert!(rt;
+        !waiting
+            .items(2, &time)
+            .is_some_and(|items| is_in_order(items))
+    );
+    waiting.sort(2, &time);
+    assert!(rt;
+        waiting
+            .items(2, &time)
+            .is_some_and(|items| is_in_order(items))
+    );
     Ok(())
 }
