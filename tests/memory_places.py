@@ -76,7 +76,6 @@ PLACES = {
         "td_keeper/src/release.rt release_after: release_batch",
         "td_pool/src/pool.rt new: bells",
         "td_reach/src/reach.rt of: copy",
-        "td_shard/src/versions.rt keep: set",
         "td_store/src/standing/format.rt format_device: copy",
         "td_store/src/standing/parts.rt recover_device: copy",
         "td_states/src/read.rt read_input: read_all",
@@ -84,6 +83,7 @@ PLACES = {
         "td_workers/src/workers.rt in_scope: start_all",
     ],
     SUMS: [
+        "td_core/src/cut.rt cut_parts: len checked_add places",
         "td_core/src/post.rt count_each: checked_add",
         "td_core/src/post.rt count_once: checked_add",
         "td_core/src/post.rt add_one: checked_add u128::from",

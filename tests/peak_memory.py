@@ -6,7 +6,8 @@
 TOTAL, one record an epoch, of one key, as many epochs as stand below, and some times as many. Between the two each command may take only so much
 more for each epoch, in bytes: `td stream --cut-every 1000`, with one shard and with four, next to nothing, since what a cut lets go is used again;
 `td feed` with a cut each 1,000 epochs, `td run` and `td batch` what they make of the input, which they read whole, and `td run`, which cuts
-each 65,536 records, no more than `td batch`, which has no hall. The greatest use is read of the system while the program runs, each two milliseconds.
+each 65,536 records, no more than `td batch`, which has no hall. So it is with a key of its own for each epoch, whose states all stay: a cut changes
+them where they stand. The greatest use is read of the system while the program runs, each two milliseconds.
 On a busy machine a reading may come so late that it misses the greatest use, so the greatest of some runs counts."""
 
 import os
@@ -28,9 +29,11 @@ COMMANDS = {
     "td feed": (("feed", "disk", "plan"), "epochs and cuts", 10_000, 50_000, 205),
     "td run": (("run",), "plan and epochs", 100_000, 200_000, 195),
     "td batch": (("batch",), "plan and epochs", 100_000, 200_000, 195),
+    "td run, keys": (("run",), "plan and keys", 131_072, 262_144, 260),
+    "td batch, keys": (("batch",), "plan and keys", 131_072, 262_144, 260),
 }
-# And by how many bytes an epoch `td run` may be above `td batch`.
-HALL = 8
+# And by how many bytes an epoch `td run` may be above `td batch`: with one key, and with a key of its own for each epoch.
+HALL = {"": 8, ", keys": 8}
 SECONDS = 120
 RUNS = 4
 
@@ -58,7 +61,13 @@ def greatest(td, words, given, folder):
 def used_of(td, folder, name, epochs):
     """The greatest memory of a command, for so many epochs."""
     words, given, *_ = COMMANDS[name]
-    text = {"epochs": EPOCH * epochs, "epochs and cuts": (EPOCH * CUT_EVERY + "cut\n") * (epochs // CUT_EVERY), "plan and epochs": f"{TOTAL}--\n" + EPOCH * epochs}
+    keys = "".join(f"0 {key} 1\n.\n" for key in range(epochs))
+    text = {
+        "epochs": EPOCH * epochs,
+        "epochs and cuts": (EPOCH * CUT_EVERY + "cut\n") * (epochs // CUT_EVERY),
+        "plan and epochs": f"{TOTAL}--\n" + EPOCH * epochs,
+        "plan and keys": f"{TOTAL}--\n{keys}",
+    }
     (folder / "plan").write_text(TOTAL)
     (folder / given).write_text(text[given])
     most = 0
@@ -76,8 +85,10 @@ def main():
         used = {name: [used_of(td, folder, name, epochs) for epochs in COMMANDS[name][2:4]] for name in COMMANDS}
     each = {name: (many - few) / (COMMANDS[name][3] - COMMANDS[name][2]) for name, (few, many) in used.items()}
     wrong = [f"{name} takes {each[name]:.0f} bytes for each epoch, and may take {COMMANDS[name][4]}" for name in COMMANDS if each[name] > COMMANDS[name][4]]
-    if each["td run"] - each["td batch"] > HALL:
-        wrong.append(f"td run takes {each['td run'] - each['td batch']:.0f} bytes more for each epoch than td batch, and may take {HALL}")
+    for which, most in HALL.items():
+        more = each[f"td run{which}"] - each[f"td batch{which}"]
+        if more > most:
+            wrong.append(f"td run{which} takes {more:.0f} bytes more for each epoch than td batch, and may take {most}")
     said = ", ".join(f"{name} {each[name]:.0f}" for name in COMMANDS)
     if wrong:
         lib.fail("\n".join([*wrong, said]))

@@ -137,7 +137,8 @@ impl Stage {
     /// `VERTEX KEY A B`: a state with which the halls begin that are opened from here on.
     fn set_state(&mut self, words: &str) -> Result<(), StepError> {
         let (vertex, key, state) = state_of(words).ok_or(StepError::Syntax)?;
-        Ok(self.states.set(vertex, key, state)?)
+        let _before = self.states.set(vertex, key, state)?;
+        Ok(())
     }
 
     /// `WORKERS FIRST`: opens another hall.

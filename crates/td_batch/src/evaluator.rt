@@ -149,9 +149,11 @@ fn keep_all(states: &mut States, changes: &[Change]) -> Result<(), BatchError>
 {
     for change in changes {
         match change.state {
-            Some(state) => states.set(change.vertex, change.key, state)?,
+            Some(state) => {
+                let _before = states.set(change.vertex, change.key, state)?;
+            }
             None => {
-                let _old = states.remove(change.vertex, change.key);
+                let _before = states.remove(change.vertex, change.key);
             }
         }
     }

@@ -22,8 +22,7 @@ use td_core::{Hall, HallError};
 use td_plan::Plan;
 use td_stamp::{Batch, EpochOut, States};
 
-/// So many epochs and records come before a cut at least, and as many as the hall's base has states: so what cuts copy is little
-/// beside what was read.
+/// So many epochs and records come before a cut, which goes over what folds left for them: so it costs little beside what was read.
 const WEIGHT: usize = 65_536;
 
 /// The output lines of a run from no states, the epochs numbered from 1, by a hall of so many shards. One batch after another is
@@ -101,12 +100,11 @@ fn cut_if_due<L: Law>(hall: &mut Hall<L>, weight: usize) -> Result<usize, Fault>
     ensures ok { OnOk result (IsSameRun L.answers hall.old hall.new) }
     ensures err { IfErr result (λ f. f ≡ Fault.Memory) }
 {
-    let (_epoch, states) = hall.base();
-    if weight < WEIGHT.max(states.len()) {
+    if weight < WEIGHT {
         return Ok(weight);
     }
-    match hall.cut() {
-        Ok(_cut) => Ok(0),
+    match hall.rebase() {
+        Ok(()) => Ok(0),
         Err(error) => Err(hall_fault(error)),
     }
 }

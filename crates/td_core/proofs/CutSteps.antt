@@ -1,5 +1,6 @@
 -- A hall that is cut takes the machine's step.
 use Rattle.std.proofs.Common.{◌≡◌, ℕ, zero, suc, ◌+◌, ◌-◌, true, false, List, [], ◌∷◌, drop, filter, nat_lt, None, unwrap_or, Result, Ok, Err, IfOk, IfErr, OnOk, OnErr, refl, ap, sym, ◌∙◌, subst, arith, inl}
+use Rattle.td_stamp.specs.States.{StateList}
 use Rattle.td_calls.specs.Answers.{Answers}
 use Rattle.td_machine.specs.State.{HallState, states_at}
 use Rattle.td_machine.specs.Active.{unpassed}
@@ -51,6 +52,12 @@ module _ (parts new : Parts) (epoch : ℕ) where
   cut_answered step here (Ok made) e s is = here ∙ sym (λ i. (has_cut (e i) (s i), (ap state_of is.fields ∙ state_then is) i))
   cut_answered step here (Err why) e s is = tt
 
+  -- the same where no states are handed out
+  pub rebased_answered : {X : Type 0} (step : Answer × HallState) → step ≡ (has_cut epoch (states_after parts epoch), cut_to (state_of parts) epoch) → (meant : StateList) → states_after parts epoch ≡ meant
+      → (r : Result X HallError) → OnOk r (IsCutAt epoch parts new) → OnOk r (step ≡ (has_cut epoch meant, state_of new))
+  rebased_answered step here meant same (Ok made) is = here ∙ (λ i. (has_cut epoch (same i), sym (ap state_of is.fields ∙ state_then is) i))
+  rebased_answered step here meant same (Err why) is = tt
+
   pub cut_refused : (step : Answer × HallState) (S : HallState) (r : Result Cut HallError) → IfErr r (λ e. e ≡ Memory) → IfErr r (IsRefused step S)
   cut_refused step S (Ok made) m = tt
   cut_refused step S (Err why) m = inl m
@@ -67,7 +74,7 @@ module _ (parts new : Parts) (epoch : ℕ) where
       routes = inv.routes;
     }
 
-    pub cut_hall : Step answers (state_of parts) event (has_cut epoch (states_after parts epoch)) (cut_to (state_of parts) epoch) → (r : Result Cut HallError)
+    pub cut_hall : {X : Type 0} → Step answers (state_of parts) event (has_cut epoch (states_after parts epoch)) (cut_to (state_of parts) epoch) → (r : Result X HallError)
         → OnOk r (IsCutAt epoch parts new) → OnErr r (new ≡ parts) → IsHall answers new
     cut_hall step (Ok made) is same = subst (IsHall answers) (sym is.fields) (still step is)
     cut_hall step (Err why) is same = subst (IsHall answers) (sym same) inv

@@ -26,8 +26,9 @@ pub struct Cut {
 impl<L: Law> Hall<L> {
     /// Cuts at the last released epoch: the states after it become the base, and the batches, what folds left and what
     /// distincts have seen in the epochs up to it are let go (Naiad, section 3.4, Checkpoint). The states are those of the
-    /// batch meaning of the batches that were released since the old base. It costs them, twice copied. Refusals, with nothing
-    /// changed: `NotPassed` with the least released epoch that has not passed, and `Memory`.
+    /// batch meaning of the batches that were released since the old base. It costs one copy of them, and a change for each key for
+    /// which a fold left a state. Refusals, with nothing changed: `NotPassed` with the least released epoch that has not passed, and
+    /// `Memory`.
     pub fn cut(&mut self) -> Result<Cut, HallError>
         ensures cut { IfOk result (λ cut. cut_by self.old (unpassed self.old) (self.old.next - 1) ≡ (has_cut cut.epoch cut.states, self.new)) }
         ensures meaning { IfOk result (λ cut. cut.states ≡ run_states L.answers self.old cut.epoch) }
@@ -43,6 +44,26 @@ impl<L: Law> Hall<L> {
             None => {
                 let last = self.parts.next - 1;
                 cut_parts(&mut self.parts, last)
+            }
+        }
+    }
+
+    /// Cuts at the last released epoch as `cut` does, and hands no states out. So it costs a change for each key for which a fold left
+    /// a state, and no copy. Refusals as of `cut`.
+    pub fn rebase(&mut self) -> Result<(), HallError>
+        ensures cut { OnOk result (cut_by self.old (unpassed self.old) (self.old.next - 1) ≡ (has_cut (self.old.next - 1) (run_states L.answers self.old (self.old.next - 1)), self.new)) }
+        ensures refused { IfErr result (IsRefused (cut_by self.old (unpassed self.old) (self.old.next - 1)) self.old) }
+        ensures memory_last { IfErr result (λ e. e ≡ Memory → unpassed self.old ≡ None) }
+        ensures err { OnErr result (self.new ≡ self.old) }
+    {
+        reached::<L>();
+        reached_in_order::<L>();
+        base_has_passed::<L>();
+        match self.unpassed() {
+            Some(epoch) => Err(HallError::NotPassed(epoch)),
+            None => {
+                let last = self.parts.next - 1;
+                rebase_parts(&mut self.parts, last)
             }
         }
     }
@@ -68,8 +89,8 @@ impl<L: Law> Hall<L> {
     }
 }
 
-/// Cuts a hall's parts at an epoch. Refusal: `Memory`, with nothing changed. Both copies of the states are made before anything
-/// is dropped: one becomes the base, and one is handed out.
+/// Cuts a hall's parts at an epoch. Refusal: `Memory`, with nothing changed: the memory of the copy that is handed out is taken
+/// first.
 fn cut_parts(parts: &mut Parts, epoch: u64) -> Result<Cut, HallError>
     requires { parts.old.base ≤ epoch }
     ensures epoch { IfOk result (λ cut. cut.epoch ≡ epoch) }
@@ -78,17 +99,30 @@ fn cut_parts(parts: &mut Parts, epoch: u64) -> Result<Cut, HallError>
     ensures err { OnErr result (parts.new ≡ parts.old) }
     ensures memory { IfErr result (λ e. e ≡ Memory) }
 {
-    let states = parts.versions.states_at(epoch, parts.states.copy()?)?;
-    let handed_out = OrderedStates::of(parts.alloc, &states)?;
+    let Some(most) = parts.states.len().checked_add(parts.versions.places()) else {
+        return Err(HallError::Memory);
+    };
+    let room = Vec::with_capacity(parts.alloc, most)?;
+    rebase_parts(parts, epoch)?;
+    Ok(Cut {
+        epoch,
+        states: OrderedStates::in_room(room, &parts.states),
+    })
+}
+
+/// Cuts a hall's parts at an epoch, and hands nothing out. Refusal: `Memory`, with nothing changed.
+fn rebase_parts(parts: &mut Parts, epoch: u64) -> Result<(), HallError>
+    requires { parts.old.base ≤ epoch }
+    ensures ok { OnOk result (IsCutAt epoch parts.old parts.new) }
+    ensures err { OnErr result (parts.new ≡ parts.old) }
+    ensures memory { IfErr result (λ e. e ≡ Memory) }
+{
+    parts.versions.bring_up(epoch, &mut parts.states)?;
     drop_first(&mut parts.batches, epoch - parts.base);
     parts.seen.let_go(epoch);
     parts.versions.let_go(epoch);
-    parts.states = states;
     parts.base = epoch;
-    Ok(Cut {
-        epoch,
-        states: handed_out,
-    })
+    Ok(())
 }
 
 /// Lets go so many of the first batches.

@@ -1,12 +1,13 @@
 -- The state of a key after what was left: that of the last version up to the epoch.
-use Rattle.std.proofs.Common.{◌≡◌, ℕ, Bool, true, false, cond, List, [], ◌∷◌, map, filter, fold, nat_le, Option, Some, None, refl, ap, sym, ◌∙◌}
+use Rattle.std.proofs.Common.{◌≡◌, ℕ, ◌+◌, ◌≤◌, Bool, true, false, cond, List, [], ◌∷◌, map, filter, fold, length, nat_le, Option, Some, None, refl, ap, sym, ◌∙◌, arith}
+use Rattle.std.specs.Prelude.{is_some}
 use Rattle.std.specs.Option.{option_map}
 use Rattle.std.specs.List.{IsDistinct}
-use Rattle.std.specs.Map.{lookup}
-use Rattle.std.specs.BTreeMap.{is_at}
+use Rattle.std.specs.Map.{lookup, remove_entry}
+use Rattle.std.specs.BTreeMap.{is_at, insert_entry}
 use Rattle.std.specs.declared.cmp.Ordering.{Ordering}
 use Rattle.std.specs.declared.cmp.Ordering.TheVariants.{Less, Equal, Greater}
-use Rattle.std.specs.Ordering.{is_eq, is_gt}
+use Rattle.std.specs.Ordering.{is_eq, is_gt, match_ordering}
 use Rattle.std.proofs.lemmas.Cmp.{upto}
 use Rattle.td_stamp.specs.declared.values.State.{State}
 use Rattle.td_stamp.specs.Orders.{state_key_cmp}
@@ -18,7 +19,7 @@ use Rattle.td_batch.specs.Meaning.{with_kept}
 use Rattle.td_machine.specs.declared.records.StateLeft.{StateLeft}
 use Rattle.td_machine.specs.State.{left_cmp, with_left}
 use Rattle.td_shard.specs.declared.versions.Version.{Version}
-use Rattle.td_shard.specs.Versions.{VersionList, left_of, left_in, version_cmp, later, latest, up_to, version_or, with_version, with_latest}
+use Rattle.td_shard.specs.Versions.{VersionList, left_of, left_in, version_cmp, later, latest, up_to, version_or, with_version, with_latest, with_some, set_there, removed_there}
 use Rattle.td_stamp.specs.ProvedOrders.{state_key_apart}
 use Rattle.td_shard.proofs.LeftOrders.{left_total, left_of-cmp}
 use Rattle.td_shard.proofs.LeftBags.{AreApart, left_in-bag, left_in-filter, join-bag, none_again}
@@ -231,3 +232,85 @@ module _ (laws : BagLaws left_cmp) where
       same_states (with_latest epoch states es) (with_left states (filter (λ k. nat_le k.epoch epoch) (left_in es)))
       (latest_keeps epoch es states (states_in_order states h)) (left_keeps (filter (λ k. nat_le k.epoch epoch) (left_in es)) states (states_in_order states h))
       (λ place. look_latest epoch place es states s (states_in_order states h) ∙ sym (state_there epoch place es states s h))
+
+  -- SOME OF THE CHANGES, and then the others: those that set a state, and those that remove one
+  some_keeps : (pick : Option Version → Option Version) (epoch : ℕ) (es : VersionList) (states : StateList) → InOrder states → InOrder (with_some pick epoch states es)
+  some_keeps pick epoch [] states h = h
+  some_keeps pick epoch (e ∷ es) states h =
+      some_keeps pick epoch es (with_version states e.0 (pick (latest (up_to epoch e.1)))) (version_keeps states e.0 (pick (latest (up_to epoch e.1))) h)
+
+  look_some : (pick : Option Version → Option Version) → pick None ≡ None → (epoch : ℕ) (place : ℕ × ℕ) (es : VersionList) (states : StateList) → AreApart es → InOrder states
+      → state_of (with_some pick epoch states es) place.0 place.1 ≡ version_or (pick (latest_at epoch (lookup (is_at (state_key_cmp place)) es))) (state_of states place.0 place.1)
+  unfolding IsDistinct
+  look_some pick n epoch place [] states s h = sym (ap (λ o. version_or o (state_of states place.0 place.1)) n)
+  look_some pick n epoch place (e ∷ es) states s h =
+      look_some pick n epoch place es (with_version states e.0 (pick (latest (up_to epoch e.1)))) s.1 (version_keeps states e.0 (pick (latest (up_to epoch e.1))) h)
+      ∙ (ap (version_or (pick (latest_at epoch (lookup (is_at (state_key_cmp place)) es)))) (look_version place e.0 (pick (latest (up_to epoch e.1))) states h) ∙ by (state_key_cmp place e.0) refl)
+    where
+      by : (o : Ordering) → state_key_cmp place e.0 ≡ o
+          → version_or (pick (latest_at epoch (lookup (is_at (state_key_cmp place)) es))) (cond (is_eq o) (version_or (pick (latest (up_to epoch e.1))) (state_of states place.0 place.1)) (state_of states place.0 place.1))
+          ≡ version_or (pick (latest_at epoch (cond (is_eq o) (Some e.1) (lookup (is_at (state_key_cmp place)) es)))) (state_of states place.0 place.1)
+      by Less f = refl
+      by Greater f = refl
+      by Equal f =
+          ap (λ o. version_or (pick (latest_at epoch o)) (version_or (pick (latest (up_to epoch e.1))) (state_of states place.0 place.1))) (none_again place e es s (state_key_apart place e.0 f))
+          ∙ ap (λ o. version_or o (version_or (pick (latest (up_to epoch e.1))) (state_of states place.0 place.1))) n
+
+  set_then_removed : (o : Option Version) (s : Option State) → version_or (removed_there o) (version_or (set_there o) s) ≡ version_or o s
+  set_then_removed None s = refl
+  set_then_removed (Some v) s = by (is_some v.state)
+    where
+      by : (b : Bool) → version_or (cond b None (Some v)) (version_or (cond b (Some v) None) s) ≡ v.state
+      by true = refl
+      by false = refl
+
+  pub brought_up : (epoch : ℕ) (es : VersionList) (states : StateList) → AreApart es → AreStates states
+      → with_some removed_there epoch (with_some set_there epoch states es) es ≡ with_left states (filter (λ k. nat_le k.epoch epoch) (left_in es))
+  brought_up epoch es states s h =
+      let ordered = states_in_order states h in
+      let set = with_some set_there epoch states es in
+      let set_ordered = some_keeps set_there epoch es states ordered in
+      same_states (with_some removed_there epoch set es) (with_left states (filter (λ k. nat_le k.epoch epoch) (left_in es)))
+      (some_keeps removed_there epoch es set set_ordered) (left_keeps (filter (λ k. nat_le k.epoch epoch) (left_in es)) states ordered)
+      (λ place.
+      let last = latest_at epoch (lookup (is_at (state_key_cmp place)) es) in
+      look_some removed_there refl epoch place es set s set_ordered
+      ∙ (ap (version_or (removed_there last)) (look_some set_there refl epoch place es states s ordered) ∙ (set_then_removed last (state_of states place.0 place.1) ∙ sym (state_there epoch place es states s h))))
+
+  -- at most one more for each key
+  length-put : (states : StateList) (place : ℕ × ℕ) (state : State) → length (insert_entry state_key_cmp states place state) ≤ length states + 1
+  length-put [] place state = omega arith
+  length-put (e ∷ es) place state = by (state_key_cmp place e.0) (length-put es place state)
+    where
+      by : (o : Ordering) → length (insert_entry state_key_cmp es place state) ≤ length es + 1
+          → length (match_ordering o ((place, state) ∷ e ∷ es) ((e.0, state) ∷ es) (e ∷ insert_entry state_key_cmp es place state)) ≤ length (e ∷ es) + 1
+      by Less rest = omega arith
+      by Equal rest = omega arith
+      by Greater rest = omega (arith, rest)
+
+  length-removed : (test : ℕ × ℕ → Bool) (states : StateList) → length (remove_entry test states) ≤ length states
+  length-removed test [] = omega arith
+  length-removed test (e ∷ es) = by (test e.0) (length-removed test es)
+    where
+      by : (b : Bool) → length (remove_entry test es) ≤ length es → length (cond b es (e ∷ remove_entry test es)) ≤ length (e ∷ es)
+      by true rest = omega arith
+      by false rest = omega (arith, rest)
+
+  length-kept : (states : StateList) (place : ℕ × ℕ) (state : Option State) → length (with_kept states place.0 place.1 state) ≤ length states + 1
+  length-kept states place None = let few = length-removed (is_at (state_key_cmp place)) states in omega (arith, few)
+  length-kept states place (Some s) = length-put states place s
+
+  length-version : (states : StateList) (place : ℕ × ℕ) (o : Option Version) → length (with_version states place o) ≤ length states + 1
+  length-version states place None = omega arith
+  length-version states place (Some v) = length-kept states place v.state
+
+  length-latest : (epoch : ℕ) (es : VersionList) (states : StateList) → length (with_latest epoch states es) ≤ length states + length es
+  length-latest epoch [] states = omega arith
+  length-latest epoch (e ∷ es) states =
+      let one = length-version states e.0 (latest (up_to epoch e.1)) in
+      let rest = length-latest epoch es (with_version states e.0 (latest (up_to epoch e.1))) in
+      omega (arith, one, rest)
+
+  pub at_most : (epoch : ℕ) (es : VersionList) (states : StateList) → AreApart es → AreStates states
+      → length (with_left states (filter (λ k. nat_le k.epoch epoch) (left_in es))) ≤ length states + length es
+  at_most epoch es states s h = let few = length-latest epoch es states in let same = ap length (all_states epoch es states s h) in omega (arith, few, same)

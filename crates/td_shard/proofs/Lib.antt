@@ -31,3 +31,4 @@ pub mod EachKept
 pub mod TwoLists
 pub mod EntriesAt
 mod UnorderedParts
+pub mod ChangesBack

@@ -1,7 +1,7 @@
 -- Versions in order: the last of them, and those up to an epoch.
-use Rattle.std.proofs.Common.{◌≡◌, ℕ, ◌-◌, ◌<◌, ◌≤◌, Bool, true, false, cond, nat_le, nat_lt, List, [], ◌∷◌, length, get_or, position, fold, filter, drop, Some, None, arith, refl, ap, sym, ◌∙◌}
+use Rattle.std.proofs.Common.{◌≡◌, ℕ, suc, ◌-◌, ◌<◌, ◌≤◌, Bool, true, false, cond, nat_le, nat_lt, List, [], ◌∷◌, length, get_or, position, fold, filter, drop, Some, None, arith, refl, ap, sym, ◌∙◌, subst}
 use Rattle.std.specs.Bool.{then_some}
-use Rattle.std.specs.List.{position_or_len, slice_get}
+use Rattle.std.specs.List.{AllByRecursion, position_or_len, slice_get}
 use Rattle.std.specs.List.Sorted.{IsPartitionedBy, IsPartitionPoint}
 use Rattle.std.specs.declared.cmp.Ordering.{Ordering}
 use Rattle.std.specs.declared.cmp.Ordering.TheVariants.{Less, Equal, Greater}
@@ -9,6 +9,7 @@ use Rattle.std.specs.Ordering.{MatchOrdering, is_eq, is_gt, nat_cmp, ordering_re
 use Rattle.std.specs.Option.{option_cmp}
 use Rattle.std.proofs.lemmas.Bool.{lt-ltb, le-ltb}
 use Rattle.std.proofs.lemmas.Cmp.{ranked}
+use Rattle.std.proofs.lemmas.List.Elements.{All-from_recursion}
 use Rattle.std.proofs.lemmas.List.Sorted.{IsPartitionedBy-leb}
 use Rattle.td_stamp.specs.Rises.{Rises}
 use Rattle.td_machine.specs.State.{state_cmp}
@@ -90,3 +91,54 @@ others-after vs epoch n l w =
 
     lt : (e epoch : ℕ) → nat_le e epoch ≡ false → nat_lt epoch e ≡ true
     lt e epoch h = grind arith
+
+-- ALL ARE UP TO AN EPOCH where the last is
+pub all-up_to : (vs : List Version) (last : Version) (epoch : ℕ) → Rises version_cmp vs → slice_get vs (length vs - 1) ≡ Some last → last.epoch ≤ epoch → AllByRecursion (λ (v : Version). v.epoch ≤ epoch) vs
+all-up_to [] last epoch r e h = tt
+all-up_to (v ∷ []) last epoch r e h = let same : v ≡ last = cc in (subst (λ (w : Version). w.epoch ≤ epoch) (sym same) h, tt)
+all-up_to (v ∷ w ∷ vs) last epoch r e h =
+    let n : length (v ∷ w ∷ vs) - 1 ≡ suc (length (w ∷ vs) - 1) = omega arith in
+    let later = all-up_to (w ∷ vs) last epoch r.1 (sym (ap (slice_get (v ∷ w ∷ vs)) n) ∙ e) h in
+    let first = epochs-in_order v w r.0.0 in
+    let next = later.0 in
+    (omega (arith, first, next), later)
+
+pub last-up_to : (vs : List Version) (last : Version) (epoch : ℕ) → slice_get vs (length vs - 1) ≡ Some last → AllByRecursion (λ (v : Version). v.epoch ≤ epoch) vs → last.epoch ≤ epoch
+last-up_to [] last epoch e h = absurd (cc)
+last-up_to (v ∷ []) last epoch e h = let same : v ≡ last = cc in subst (λ (w : Version). w.epoch ≤ epoch) same h.0
+last-up_to (v ∷ w ∷ vs) last epoch e h =
+    let n : length (v ∷ w ∷ vs) - 1 ≡ suc (length (w ∷ vs) - 1) = omega arith in
+    last-up_to (w ∷ vs) last epoch (sym (ap (slice_get (v ∷ w ∷ vs)) n) ∙ e) h.1
+
+last-there : (v : Version) (vs : List Version) → slice_get (v ∷ vs) (length (v ∷ vs) - 1) ≡ None → ⊥
+last-there v [] e = cc
+last-there v (w ∷ vs) e = let n : length (v ∷ w ∷ vs) - 1 ≡ suc (length (w ∷ vs) - 1) = omega arith in last-there w vs (sym (ap (slice_get (v ∷ w ∷ vs)) n) ∙ e)
+
+-- so are none
+pub none-up_to : (vs : List Version) (epoch : ℕ) → slice_get vs (length vs - 1) ≡ None → AllByRecursion (λ (v : Version). v.epoch ≤ epoch) vs
+none-up_to [] epoch e = tt
+none-up_to (v ∷ vs) epoch e = absurd (last-there v vs e)
+
+-- so they are all before its end
+pub up_to-all : (vs : List Version) (epoch : ℕ) → AllByRecursion (λ (v : Version). v.epoch ≤ epoch) vs → up_to epoch vs ≡ vs
+up_to-all [] epoch h = refl
+up_to-all (v ∷ vs) epoch h = let yes : nat_le v.epoch epoch ≡ true = grind (arith, h.0) in λ i. cond (yes i) (v ∷ up_to-all vs epoch h.1 i) (up_to-all vs epoch h.1 i)
+
+pub after-none : (vs : List Version) (epoch : ℕ) → AllByRecursion (λ (v : Version). v.epoch ≤ epoch) vs → filter (λ (v : Version). nat_lt epoch v.epoch) vs ≡ []
+after-none [] epoch h = refl
+after-none (v ∷ vs) epoch h = let no : nat_lt epoch v.epoch ≡ false = grind (arith, h.0) in λ i. cond (no i) (v ∷ after-none vs epoch h.1 i) (after-none vs epoch h.1 i)
+
+-- and a version of a later epoch stands behind them
+later_than : (v w : Version) → w.epoch < v.epoch → version_cmp v w ≡ Greater
+later_than v w h = by (nat_cmp v.epoch w.epoch) (ranked v.epoch w.epoch (nat_cmp v.epoch w.epoch) refl)
+  where
+    by : (o : Ordering) → MatchOrdering o (v.epoch < w.epoch) (v.epoch ≡ w.epoch) (w.epoch < v.epoch) → ordering_then o (option_cmp state_cmp v.state w.state) ≡ Greater
+    by Less k = absurd (omega (arith, h, k))
+    by Equal k = absurd (omega (arith, h, k))
+    by Greater k = refl
+
+pub behind_all : (v : Version) (vs : List Version) (epoch : ℕ) → epoch < v.epoch → AllByRecursion (λ (w : Version). w.epoch ≤ epoch) vs → IsPlace version_cmp version_total v vs (length vs)
+behind_all v vs epoch l h = (
+  λ k d a b. let here = All-from_recursion (λ (w : Version). w.epoch ≤ epoch) vs h k d b in later_than v (get_or vs k d) (omega (arith, here, l)),
+  λ k d a b. absurd (omega (arith, a, b)),
+)

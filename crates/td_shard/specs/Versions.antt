@@ -1,12 +1,12 @@
 -- What folds left for their keys above a base: the versions, each kept with its vertex and key.
-use Rattle.std.specs.Prelude.{◌≡◌, ◌≢◌, ℕ, cond, List, [], ◌∷◌, map, filter, fold, nat_le, Option, Some, None}
+use Rattle.std.specs.Prelude.{◌≡◌, ◌≢◌, ℕ, cond, List, [], ◌∷◌, map, filter, fold, nat_le, Option, Some, None, is_some}
 use Rattle.std.specs.declared.cmp.Ordering.{Ordering}
 use Rattle.std.specs.Ordering.{ordering_then, nat_cmp, is_gt}
 use Rattle.std.specs.Option.{option_cmp}
 use Rattle.td_stamp.specs.Bag.{bag_remove, join}
 use Rattle.td_stamp.specs.Rises.{Rises}
 use Rattle.td_stamp.specs.declared.values.State.{State}
-use Rattle.td_stamp.specs.States.{StateList, state_of, AreStates}
+use Rattle.td_stamp.specs.States.{StateList, state_of, replaced, without_state, AreStates}
 use Rattle.td_batch.specs.Meaning.{with_kept}
 use Rattle.td_machine.specs.declared.records.StateLeft.{StateLeft}
 use Rattle.td_machine.specs.State.{state_cmp, left_cmp, with_left}
@@ -65,6 +65,30 @@ with_version states place (Some version) = with_kept states place.0 place.1 vers
 abbrev pub with_latest : ℕ → StateList → VersionList → StateList
 with_latest epoch states [] = states
 with_latest epoch states (e ∷ es) = with_latest epoch (with_version states e.0 (latest (up_to epoch e.1))) es
+
+-- a last version that sets a state, and one that removes one
+abbrev pub set_there : Option Version → Option Version
+set_there None = None
+set_there (Some v) = cond (is_some v.state) (Some v) None
+
+abbrev pub removed_there : Option Version → Option Version
+removed_there None = None
+removed_there (Some v) = cond (is_some v.state) None (Some v)
+
+-- states with some of the last versions up to an epoch
+abbrev pub with_some : (Option Version → Option Version) → ℕ → StateList → VersionList → StateList
+with_some pick epoch states [] = states
+with_some pick epoch states (e ∷ es) = with_some pick epoch (with_version states e.0 (pick (latest (up_to epoch e.1)))) es
+
+-- states with a change taken back: with the state that was kept before at a place, if any
+abbrev pub with_change_back : StateList → (ℕ × ℕ) × Option State → StateList
+with_change_back states (place, None) = without_state states place.0 place.1
+with_change_back states (place, Some was) = replaced states place.0 place.1 was
+
+-- with all of them, the last first
+abbrev pub with_changes_back : StateList → List ((ℕ × ℕ) × Option State) → StateList
+with_changes_back states [] = states
+with_changes_back states (e ∷ es) = with_change_back (with_changes_back states es) e
 
 -- what was left, without some of it
 abbrev pub taken_back : List StateLeft → List StateLeft → List StateLeft

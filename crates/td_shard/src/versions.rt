@@ -1,16 +1,16 @@
 //! What folds left for their keys above the base of a hall. The versions of one vertex and key stand in order, so that each is
 //! found by halving.
-ghost use Rattle.std.specs.Prelude.{◌≡◌, ℕ, [], false, filter, length, nat_le, nat_lt, None, OnOk, OnErr, IfOk, ◌≢◌, ◌≤◌, ◌↔◌, position, take, drop, IsTrue};
+ghost use Rattle.std.specs.Prelude.{◌≡◌, ◌+◌, ℕ, [], false, filter, map, length, nat_le, nat_lt, None, OnOk, OnErr, IfOk, ◌≢◌, ◌≤◌, ◌↔◌, position, take, drop, IsTrue};
 ghost use Rattle.std.specs.Iterator.{at_most, YieldsFirst};
 ghost use Rattle.std.specs.List.{AllByRecursion};
 ghost use Rattle.std.specs.Map.{keys_of};
 ghost use Rattle.td_stamp.specs.Bag.{bag_insert, bag_remove, has, join};
 ghost use Rattle.td_stamp.specs.BagLaws.{BagLaws};
 ghost use Rattle.td_stamp.specs.Orders.{state_key_cmp};
-ghost use Rattle.td_stamp.specs.States.{state_of};
+ghost use Rattle.td_stamp.specs.States.{StateList, AreStates, state_of};
 ghost use Rattle.td_batch.specs.Meaning.{with_kept};
 ghost use Rattle.td_machine.specs.State.{left_cmp, with_left, state_cmp};
-ghost use Rattle.td_shard.specs.Versions.{taken_back, IsLatestAt, version_cmp, latest, up_to};
+ghost use Rattle.td_shard.specs.Versions.{taken_back, IsLatestAt, version_cmp, latest, up_to, AreKept, with_some, set_there, removed_there, with_changes_back};
 ghost use Rattle.std.specs.List.Sorted.{IsPartitionPoint};
 ghost use Rattle.std.specs.Option.{option_cmp};
 ghost use Rattle.std.specs.Ordering.{is_eq, is_gt};
@@ -70,7 +70,7 @@ impl Versions {
         ensures { result ≡ state_of (with_left base.now (filter (λ k. nat_le k.epoch epoch) self.now)) vertex key }
     {
         // Its contract says that the states stand in order.
-        let _in_order = base.list();
+        let _in_order = base.len();
         match self.latest_at(epoch, vertex, key) {
             Some(version) => version.state,
             None => base.get(vertex, key),
@@ -133,6 +133,32 @@ impl Versions {
         Ok(states)
     }
 
+    /// Has states be those after an epoch, where they stand: with one change for each key. Each key costs O(log v) with its v versions, and
+    /// one that comes or goes O(log n) with n states. Refusal: `Memory`, with the states unchanged.
+    pub fn bring_up(&self, epoch: u64, states: &mut States) -> Result<(), ShardError>
+        ensures ok { OnOk result (states.new ≡ with_left states.old (filter (λ k. nat_le k.epoch epoch) self.now)) }
+        ensures err { OnErr result (states.new ≡ states.old) }
+    {
+        version_laws();
+        // Its contract says that the states stand in order.
+        let _in_order = states.len();
+        let mut before = Vec::with_capacity(self.alloc, self.versions.len())?;
+        if let Err(refused) = set_all(&self.versions, epoch, states, &mut before) {
+            take_changes_back(states, &mut before);
+            return Err(refused);
+        }
+        remove_all(&self.versions, epoch, states);
+        Ok(())
+    }
+
+    /// How many states more there may be after what was left, at most: one for each key.
+    pub fn places(&self) -> usize
+        ensures { (epoch : ℕ) (states : StateList) → AreStates states → length (with_left states (filter (λ k. nat_le k.epoch epoch) self.now)) ≤ length states + result }
+    {
+        version_laws();
+        self.versions.len()
+    }
+
     /// Lets go what was left up to an epoch, and each key that has nothing left. Each key costs O(log v) with its v versions, and
     /// where some of them go a move of the others. Takes no memory.
     pub fn let_go(&mut self, epoch: u64)
@@ -153,8 +179,8 @@ impl Versions {
         match self.versions.get_mut(&place) {
             Some(versions) => put_in(versions, version),
             None => {
-                let mut versions = Vec::new(self.alloc);
-                versions.push(version)?;
+                let mut versions = Vec::with_capacity(self.alloc, 1)?;
+                versions.push_reserved(version);
                 self.versions.insert(place, versions)?;
                 Ok(())
             }
@@ -217,6 +243,62 @@ impl<'a> Iterator for LatestOfEach<'a> {
     }
 }
 
+/// What was left for keys: of each its versions.
+type Left = HashMap<(u8, u64), Vec<Version>>;
+
+/// A vertex and key, and the state that was kept there before, if any.
+type Before = ((u8, u64), Option<State>);
+
+/// Sets the states of all keys whose last version up to an epoch is one, and puts down what was kept before. Refusal: `Memory`.
+fn set_all(
+    left: &Left,
+    epoch: u64,
+    states: &mut States,
+    before: &mut Vec<Before>,
+) -> Result<(), ShardError>
+    requires { AreKept (map (λ e. (e.0, e.1.items)) left.now.entries) }
+    ensures ok { OnOk result (states.new ≡ with_some set_there epoch states.old (map (λ e. (e.0, e.1.items)) left.now.entries)) }
+    ensures back { with_changes_back states.new before.new.items ≡ with_changes_back states.old before.old.items }
+{
+    for ((vertex, key), versions) in left.iter() {
+        let Some(version) = latest(versions.as_slice(), epoch) else {
+            continue;
+        };
+        if let Some(state) = version.state {
+            before.reserve(1)?;
+            let was = states.set(*vertex, *key, state)?;
+            before.push_reserved(((*vertex, *key), was));
+        }
+    }
+    Ok(())
+}
+
+/// Removes the states of all keys whose last version up to an epoch is none. Takes no memory.
+fn remove_all(left: &Left, epoch: u64, states: &mut States)
+    requires { AreKept (map (λ e. (e.0, e.1.items)) left.now.entries) }
+    ensures { states.new ≡ with_some removed_there epoch states.old (map (λ e. (e.0, e.1.items)) left.now.entries) }
+{
+    for ((vertex, key), versions) in left.iter() {
+        if let Some(Version { state: None, .. }) = latest(versions.as_slice(), epoch) {
+            states.remove(*vertex, *key);
+        }
+    }
+}
+
+/// Takes changes of states back, the last first. Takes no memory.
+fn take_changes_back(states: &mut States, before: &mut Vec<Before>)
+    ensures { states.new ≡ with_changes_back states.old before.old.items }
+{
+    while let Some(((vertex, key), was)) = before.pop() {
+        match was {
+            Some(was) => states.replace(vertex, key, was),
+            None => {
+                states.remove(vertex, key);
+            }
+        }
+    }
+}
+
 /// The vertex and key for which something was left, and the version.
 fn placed(left: &StateLeft) -> ((u8, u64), Version)
     ensures place { result.0 ≡ (left.now.vertex, left.now.key) }
@@ -234,14 +316,14 @@ fn keep(states: &mut States, vertex: u8, key: u64, state: Option<State>) -> Resu
     ensures { OnOk result (states.new ≡ with_kept states.old vertex key state) }
 {
     match state {
-        Some(state) => states
-            .set(vertex, key, state)
-            .map_err(|_| ShardError::Memory),
+        Some(state) => {
+            let _before = states.set(vertex, key, state)?;
+        }
         None => {
-            states.remove(vertex, key);
-            Ok(())
+            let _before = states.remove(vertex, key);
         }
     }
+    Ok(())
 }
 
 /// The laws of what was left, as a bag.
@@ -280,14 +362,28 @@ fn compare_states(one: Option<State>, other: Option<State>) -> Ordering
     }
 }
 
-/// How many of these versions are up to an epoch: the first of them. Costs O(log n).
+/// How many of these versions are up to an epoch: the first of them. Costs O(log n), and O(1) where all are.
 fn count_up_to(versions: &[Version], epoch: u64) -> usize
     requires { Rises version_cmp versions.now }
     ensures within { result ≤ length versions.now }
     ensures before { take result versions.now ≡ up_to epoch versions.now }
     ensures behind { drop result versions.now ≡ filter (λ k. nat_lt epoch k.epoch) versions.now }
 {
+    if are_up_to(versions, epoch) {
+        return versions.len();
+    }
     versions.partition_point(|version| version.epoch <= epoch)
+}
+
+/// Whether all of these versions are up to an epoch.
+fn are_up_to(versions: &[Version], epoch: u64) -> bool
+    requires { Rises version_cmp versions.now }
+    ensures { IsTrue result ↔ AllByRecursion (λ v. v.epoch ≤ epoch) versions.now }
+{
+    match versions.last() {
+        Some(last) => last.epoch <= epoch,
+        None => true,
+    }
 }
 
 /// The last version up to an epoch. Costs O(log n).
@@ -299,12 +395,15 @@ pub(crate) fn latest(versions: &[Version], epoch: u64) -> Option<Version>
     versions[..count].last().copied()
 }
 
-/// The place for a version among these: behind all that are below it. Costs O(log n).
+/// The place for a version among these: behind all that are below it. Costs O(log n), and O(1) where all are of earlier epochs.
 fn place_for(versions: &[Version], version: Version) -> usize
     requires { Rises version_cmp versions.now }
     ensures within { result ≤ length versions.now }
     ensures place { IsPartitionPoint (λ k. version_cmp version k ≡ Greater) (λ k. is_gt (version_cmp version k) ≡ false) versions.now result }
 {
+    if version.epoch > 0 && are_up_to(versions, version.epoch - 1) {
+        return versions.len();
+    }
     versions.partition_point(|kept| version.total_cmp(kept).is_gt())
 }
 

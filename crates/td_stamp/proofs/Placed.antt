@@ -30,6 +30,17 @@ there p q h = by (state_key_cmp p q) refl h
     by Equal e h = state_key_apart p q e
     by Greater e h = cc
 
+-- the place is where the test says so
+pub place_is : (p q : ℕ × ℕ) → same_place p q ≡ true → p ≡ q
+place_is p q h = there p q (places_tied p q ∙ h)
+
+-- a place where a state is put is one at which there is a state: where it was one before
+pub still : (b d : Bool) (s : Option State) (x : State) (held : Bool) → b ≡ d → held ≡ is_some s → (d ≡ true → is_some s ≡ true) → held ≡ is_some (cond d (Some x) s)
+still true true s x held e h f = h ∙ f refl
+still false false s x held e h f = h
+still true false s x held e h f = cc
+still false true s x held e h f = cc
+
 -- ---- a look-up
 
 module _ (find : ℕ × ℕ → Option State) (p : ℕ × ℕ) where

@@ -1,5 +1,5 @@
 -- Kept states: a map from (vertex, key) to a state, as the list of its entries in the order of (vertex, key).
-use Rattle.std.specs.Prelude.{ℕ, ◌==◌, Bool, ◌&&◌, List, Option, map, pos}
+use Rattle.std.specs.Prelude.{ℕ, ◌==◌, Bool, ◌&&◌, cond, List, Option, is_some, map, pos}
 use Rattle.std.specs.Ordering.{int_eq}
 use Rattle.std.specs.Map.{lookup, remove_entry, keys_of}
 use Rattle.std.specs.BTreeMap.{insert_entry, is_at}
@@ -18,6 +18,10 @@ state_of states vertex key = lookup (is_at (state_key_cmp (vertex, key))) states
 -- the states with this one at a vertex and key
 abbrev pub with_state : StateList → ℕ → ℕ → State → StateList
 with_state states vertex key state = insert_entry state_key_cmp states (vertex, key) state
+
+-- the states with another one at a vertex and key that have one; else as they are
+abbrev pub replaced : StateList → ℕ → ℕ → State → StateList
+replaced states vertex key state = cond (is_some (state_of states vertex key)) (with_state states vertex key state) states
 
 -- the states without that of a vertex and key
 abbrev pub without_state : StateList → ℕ → ℕ → StateList

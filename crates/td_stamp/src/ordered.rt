@@ -1,5 +1,5 @@
 //! Kept states in order alone.
-ghost use Rattle.std.specs.Prelude.{◌≡◌, ◌↔◌, ◌∷◌, ◌++◌, OnOk, OnErr, IfOk, IsTrue, [], length};
+ghost use Rattle.std.specs.Prelude.{◌≡◌, ◌↔◌, ◌≤◌, ◌∷◌, ◌++◌, OnOk, OnErr, IfOk, IsTrue, [], length, vec_capacity};
 ghost use Rattle.std.specs.Iterator.{at_most, YieldsFirst};
 ghost use Rattle.td_stamp.specs.States.{AreStates};
 
@@ -46,6 +46,19 @@ impl OrderedStates {
             entries.push(entry)?;
         }
         Ok(OrderedStates { entries })
+    }
+
+    /// The same states as others, in memory that was taken for them before. Takes no memory.
+    pub fn in_room(room: Vec<((u8, u64), State)>, states: &States) -> OrderedStates
+        requires empty { room.items ≡ [] }
+        requires enough { length states.now ≤ vec_capacity room }
+        ensures { result ≡ states.now }
+    {
+        let mut entries = room;
+        for state in states.list() {
+            entries.push_reserved(state);
+        }
+        OrderedStates { entries }
     }
 
     /// How many states there are.

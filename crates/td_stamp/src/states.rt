@@ -5,7 +5,7 @@ ghost use Rattle.std.specs.List.{All};
 ghost use Rattle.std.specs.Map.{keys_of};
 ghost use Rattle.td_stamp.specs.Bag.{set_of};
 ghost use Rattle.td_stamp.specs.Orders.{state_key_cmp};
-ghost use Rattle.td_stamp.specs.States.{state_of, with_state, without_state, AreStates};
+ghost use Rattle.td_stamp.specs.States.{state_of, with_state, without_state, replaced, AreStates};
 
 use crate::error::StampError;
 use crate::values::State;
@@ -55,7 +55,8 @@ impl States {
 
     /// How many states there are.
     pub fn len(&self) -> usize
-        ensures { result ≡ length self.now }
+        ensures count { result ≡ length self.now }
+        ensures ordered { AreStates self.now }
     {
         self.order.len()
     }
@@ -74,20 +75,37 @@ impl States {
         self.kept.get(&(vertex, key)).copied()
     }
 
-    /// Has `vertex` keep `state` for `key`, in place of one that it keeps. Refusal: `Memory`, with the states unchanged.
-    pub fn set(&mut self, vertex: u8, key: u64, state: State) -> Result<(), StampError>
+    /// Has `vertex` keep `state` for `key`, and hands out the one that it kept before, if any. Refusal: `Memory`, with the states
+    /// unchanged.
+    pub fn set(&mut self, vertex: u8, key: u64, state: State) -> Result<Option<State>, StampError>
         ensures ok { OnOk result (self.new ≡ with_state self.old vertex key state) }
+        ensures before { IfOk result (λ before. before ≡ state_of self.old vertex key) }
         ensures err { OnErr result (self.new ≡ self.old) }
+        ensures ordered { AreStates self.old }
     {
         let place = (vertex, key);
-        if self.kept.insert(place, state)?.is_some() {
-            return Ok(());
+        let before = self.kept.insert(place, state)?;
+        if before.is_some() {
+            return Ok(before);
         }
         if let Err(refused) = self.order.insert(place) {
             self.kept.remove(&place);
             return Err(refused.into());
         }
-        Ok(())
+        Ok(before)
+    }
+
+    /// Has `vertex` keep another state for a `key` for which it keeps one; else nothing changes. Takes no memory.
+    pub fn replace(&mut self, vertex: u8, key: u64, state: State)
+        ensures { self.new ≡ replaced self.old vertex key state }
+    {
+        let place = (vertex, key);
+        if self.kept.contains_key(&place) {
+            // Only a new key may be refused.
+            let Ok(_before) = self.kept.insert(place, state) else {
+                unreachable!();
+            };
+        }
     }
 
     /// Takes away the state that `vertex` keeps for `key`, and hands it out. Takes no memory.

@@ -33,13 +33,13 @@ among : {V S : Type 0} (m n : HashMap (ℕ × ℕ) V S) (place : ℕ × ℕ) (w 
 among m n place w None e h = h
 among m n place w (Some x) e h = cc
 
-put_first : (c : goal.Joined-branch-3) → IsPermutation ((c.placed.result.0, c.push.new.self) ∷ c.self.inside.versions.entries) c.insert.new.self.entries
+put_first : (c : goal.Joined-branch-3) → IsPermutation ((c.placed.result.0, c.push_reserved.new.self) ∷ c.self.inside.versions.entries) c.insert.new.self.entries
 put_first c =
     let place = c.placed.result.0 in
     let before = c.get_mut.follows.holds-at-none in
     let none : c.in_ok-insert-in-None.field-0 ≡ None = c.in_ok-insert-in-None.ensures.old ∙ ap (λ m. lookup (same_place place) m.entries) before ∙ sym c.in-None.ensures.value in
-    subst (λ m. IsPermutation ((place, c.push.new.self) ∷ m.entries) c.insert.new.self.entries) before
-    (among c.get_mut.follows.lender-at-none c.insert.new.self place c.push.new.self c.in_ok-insert-in-None.field-0 none c.in_ok-insert-in-None.ensures.entries)
+    subst (λ m. IsPermutation ((place, c.push_reserved.new.self) ∷ m.entries) c.insert.new.self.entries) before
+    (among c.get_mut.follows.lender-at-none c.insert.new.self place c.push_reserved.new.self c.in_ok-insert-in-None.field-0 none c.in_ok-insert-in-None.ensures.entries)
 
 pub put_in-requires : goal.put_in-requires
 put_in-requires c = (kept-here (λ v. v.items) c.placed.result.0 c.self.inside.versions.entries c.self.inside.versions.entries c.self.invariant.1 c.in-Some.versions.now (found_by_order c.placed.result.0 c.self.inside.versions.entries (Some c.in-Some.versions.now) c.in-Some.ensures.value)).1
@@ -65,9 +65,9 @@ returns-in-Some-clause-err c =
 pub returns-in_ok-insert-in-None-clause-ok : goal.returns-in_ok-insert-in-None-clause-ok
 returns-in_ok-insert-in-None-clause-ok c =
     let es = c.self.inside.versions.entries in
-    let new = c.push.new.self in
+    let new = c.push_reserved.new.self in
     first_one (λ v. v.items) c.placed.result.0 es c.insert.new.self.entries c.version_laws.ensures c.placed.result.1 new (put_first c)
-    (c.in_ok-push-in-None.ensures.items ∙ ap (λ l. l ++ c.placed.result.1 ∷ []) c.new-versions.ensures.items)
+    (c.push_reserved.ensures.items ∙ ap (λ l. l ++ c.placed.result.1 ∷ []) c.in_ok-versions-in-None.ensures.items)
     ∙ (λ i. bag_insert left_cmp (left_of (c.placed.ensures.place i) (c.placed.ensures.version i)) (c.self.view_is i))
 
 pub invariant_of-self : goal.invariant_of-self
@@ -82,8 +82,8 @@ invariant_of-self c =
 
 pub invariant_of-self-in-None : goal.invariant_of-self-in-None
 invariant_of-self-in-None c =
-    let one = c.in_ok-push-in-None.ensures.items ∙ ap (λ l. l ++ c.placed.result.1 ∷ []) c.new-versions.ensures.items in (
+    let one = c.push_reserved.ensures.items ∙ ap (λ l. l ++ c.placed.result.1 ∷ []) c.in_ok-versions-in-None.ensures.items in (
       search rules,
-      kept-put (λ v. v.items) c.placed.result.0 c.self.inside.versions.entries c.insert.new.self.entries c.self.invariant.1 c.push.new.self (put_first c)
+      kept-put (λ v. v.items) c.placed.result.0 c.self.inside.versions.entries c.insert.new.self.entries c.self.invariant.1 c.push_reserved.new.self (put_first c)
           (subst AreVersions (sym one) (λ e. cc, (tt, tt))),
     )
