@@ -1,0 +1,5 @@
+use Rattle.std.proofs.Common.{rules}
+use Rattle.td_disk.proofs.fuse.FuseDisk.stop_at.Goals as goal
+
+pub returns-clause-left : goal.returns-clause-left
+returns-clause-left g c = search rules
